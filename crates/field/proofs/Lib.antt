@@ -1,0 +1,6 @@
+pub mod Computed
+pub mod Addition
+pub mod Linear
+pub mod Multiplication
+pub mod Claims
+pub mod Constants

@@ -1,0 +1,3 @@
+pub mod Columns
+pub mod Layers
+pub mod Claims

@@ -1,0 +1,62 @@
+-- The laws of the S-box: its own inverse and bound, by one computed test over the 256 bytes; and the regrouping by shifts and masks.
+use mathlib.Core.Path.{_≡_}
+use mathlib.Core.Bool.{Bool, true, false, _&&_}
+use mathlib.Core.List.{List, [], _∷_}
+use Prim.Native.Nat.{ℕ, zero, suc, _*_, _/_, _%_, _<_}
+use lib.ListN.{getD}
+use lib.Dec.{T, eqb, eqb→eq, ltb, ltb→lt, lit<}
+use lib.Bits.{bitAnd, bitOr}
+use Rattle.field.proofs.Computed.{and-left, and-right, all, passed}
+use Rattle.sbox.specs.Sbox.{tableP, tableQ, miniP, miniQ, joinTops, joinLows, joinHalves, sbox}
+
+-- ---- the tables' entries have four bits
+each : List ℕ → Bool
+each [] = true
+each (x ∷ xs) = ltb x 16 && each xs
+
+each-entry : (xs : List ℕ) → T (each xs) → (k : ℕ) → getD xs k 0 < 16
+unfolding each
+each-entry [] t k = lit< tt
+each-entry (x ∷ xs) t zero = ltb→lt x 16 (and-left (ltb x 16) (each xs) t)
+each-entry (x ∷ xs) t (suc k) = each-entry xs (and-right (ltb x 16) (each xs) t) k
+
+pub p-small : (x : ℕ) → miniP x < 16
+unfolding tableP each
+p-small x = each-entry tableP tt x
+
+pub q-small : (x : ℕ) → miniQ x < 16
+unfolding tableQ each
+q-small x = each-entry tableQ tt x
+
+-- ---- the S-box undoes itself
+right : ℕ → Bool
+right x = eqb (sbox (sbox x)) x && ltb (sbox x) 256
+
+test : T (all 256 right)
+unfolding right sbox tableP tableQ
+test = tt
+
+pub sbox-sbox : (x : ℕ) → x < 256 → sbox (sbox x) ≡ x
+unfolding right
+sbox-sbox x h = eqb→eq _ _ (and-left (eqb (sbox (sbox x)) x) (ltb (sbox x) 256) (passed 256 right test x h))
+
+pub sbox-byte : (x : ℕ) → x < 256 → sbox x < 256
+unfolding right
+sbox-byte x h = ltb→lt _ _ (and-right (eqb (sbox (sbox x)) x) (ltb (sbox x) 256) (passed 256 right test x h))
+
+-- ---- two functions of the halves of a byte that agree at all halves
+module _ (f g : ℕ → ℕ → ℕ) where
+  abbrev Same : Bool
+  Same = all 16 (λ h. all 16 (λ l. eqb (f h l) (g h l)))
+
+  halves : T Same → (h l : ℕ) → h < 16 → l < 16 → f h l ≡ g h l
+  halves t h l hh hl = eqb→eq (f h l) (g h l) (passed 16 (λ l. eqb (f h l) (g h l)) (passed 16 (λ h. all 16 (λ l. eqb (f h l) (g h l))) t h hh) l hl)
+
+pub tops-is : (h l : ℕ) → h < 16 → l < 16 → bitOr (bitAnd h 12) (l / 4) ≡ joinTops h l
+tops-is = halves (λ h l. bitOr (bitAnd h 12) (l / 4)) joinTops tt
+
+pub lows-is : (h l : ℕ) → h < 16 → l < 16 → bitOr (bitAnd h 3 * 4 % 256) (bitAnd l 3) ≡ joinLows h l
+lows-is = halves (λ h l. bitOr (bitAnd h 3 * 4 % 256) (bitAnd l 3)) joinLows tt
+
+pub halves-is : (h l : ℕ) → h < 16 → l < 16 → bitOr (h * 16 % 256) l ≡ joinHalves h l
+halves-is = halves (λ h l. bitOr (h * 16 % 256) l) joinHalves tt

@@ -1,0 +1,10 @@
+use native.Mathlib.Omega.{arith}
+use lib.Bits.{and-mask}
+use Rattle.sbox.proofs.low_half.Statement.{statement}
+use Rattle.sbox.proofs.low_half.Tie as tie
+
+returns : tie.Need-returns
+returns c = let e = and-mask (c .args .x) 4 in record { is = e; small = omega arith }
+
+pub low-half-spec : {M : Type 1} → statement M
+low-half-spec = tie.close (tie.spec returns)

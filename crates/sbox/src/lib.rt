@@ -1,0 +1,67 @@
+// The S-box of a byte, computed from two mini-boxes of sixteen 4-bit numbers.
+
+ghost use mathlib.Core.Path.{_≡_};
+ghost use Prim.Native.Nat.{_%_, _<_};
+ghost use Rattle.sbox.specs.Sbox.{miniP, miniQ, joinTops, joinLows, joinHalves, sbox, Nibble};
+
+// The mini-boxes.
+const P: [u8; 16] = [3, 15, 14, 0, 5, 4, 11, 12, 13, 10, 9, 6, 7, 8, 2, 1];
+
+const Q: [u8; 16] = [9, 14, 5, 6, 10, 2, 3, 12, 15, 0, 4, 13, 7, 11, 1, 8];
+
+fn mini_p(x: u8) -> u8
+    requires { ⌜ x < 16 ⌝ }
+    ensures { λ r. ⌜ Nibble r (miniP x) ⌝ }
+{
+    P[x as usize]
+}
+
+fn mini_q(x: u8) -> u8
+    requires { ⌜ x < 16 ⌝ }
+    ensures { λ r. ⌜ Nibble r (miniQ x) ⌝ }
+{
+    Q[x as usize]
+}
+
+// The top two bits of h joined to the top two of l.
+fn join_tops(h: u8, l: u8) -> u8
+    requires { ⌜ (h < 16) × (l < 16) ⌝ }
+    ensures { λ r. ⌜ Nibble r (joinTops h l) ⌝ }
+{
+    (h & 12) | (l >> 2)
+}
+
+// The low two bits of h joined to the low two of l.
+fn join_lows(h: u8, l: u8) -> u8
+    requires { ⌜ (h < 16) × (l < 16) ⌝ }
+    ensures { λ r. ⌜ Nibble r (joinLows h l) ⌝ }
+{
+    ((h & 3) << 2) | (l & 3)
+}
+
+// h as the high half of a byte, l as its low half.
+fn join_halves(h: u8, l: u8) -> u8
+    requires { ⌜ (h < 16) × (l < 16) ⌝ }
+    ensures { λ r. ⌜ r ≡ joinHalves h l ⌝ }
+{
+    (h << 4) | l
+}
+
+fn low_half(x: u8) -> u8
+    ensures { λ r. ⌜ Nibble r (x % 16) ⌝ }
+{
+    x & 15
+}
+
+// The S-box of a byte, from the mini-boxes.
+pub fn substitute_byte(x: u8) -> u8
+    ensures { λ r. ⌜ r ≡ sbox x ⌝ }
+{
+    let h1 = mini_p(x >> 4);
+    let l1 = mini_q(low_half(x));
+    let h2 = mini_q(join_tops(h1, l1));
+    let l2 = mini_p(join_lows(h1, l1));
+    let h3 = mini_p(join_tops(h2, l2));
+    let l3 = mini_q(join_lows(h2, l2));
+    join_halves(h3, l3)
+}
