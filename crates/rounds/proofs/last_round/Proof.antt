@@ -1,0 +1,25 @@
+use mathlib.Core.Path.{ap, _∙_}
+use Rattle.layers.specs.Layers.{permuted, added}
+use Rattle.rounds.specs.Rounds.{lastRound}
+use borrow.Author.Needs.{needs}
+use Rattle.rounds.proofs.last_round.Statement.{statement}
+use Rattle.rounds.proofs.last_round.Tie as tie
+
+substitute-requires : tie.Need-substitute-requires
+substitute-requires c κs = search needs
+
+permute-requires : tie.Need-permute-requires
+permute-requires c κs = search needs
+
+add-key-requires : tie.Need-add-key-requires
+add-key-requires c κs = search needs
+
+returns : tie.Need-returns
+unfolding lastRound
+returns c =
+    let k = c .before .before .before .args .k in
+    c .add-key .ensures ∙ ap (added k) (c .before .permute .ensures ∙ ap permuted (c .before .before .substitute .ensures))
+
+pub last-round-spec : {M : Type 1} → statement M
+last-round-spec =
+    tie.close (tie.spec substitute-requires permute-requires add-key-requires returns)

@@ -1,0 +1,20 @@
+-- What is claimed of the rounds. A term of each type stands in proofs/Claims.antt.
+use mathlib.Core.Path.{_≡_}
+use mathlib.Core.List.{List}
+use Prim.Native.Nat.{ℕ, _≤_}
+use lib.ListN.{length}
+use Rattle.layers.specs.State.{State, IsState}
+use Rattle.rounds.specs.Rounds.{ciphered, turned, AllStates}
+
+-- Demand 3, its last sentence, and paper 000, Theorem 1: for every list of two or more subkeys and every block, the rounds run again
+-- on their result under the turned list restore the block. A list of 11 to 24 subkeys is a case of it.
+unfoldable pub RestoresBlock : Type 0
+RestoresBlock = (ks : List State) (a : State) → 2 ≤ length ks → AllStates ks → IsState a → ciphered (turned ks) (ciphered ks a) ≡ a
+
+-- a list turned twice is the list
+unfoldable pub TurnedTwice : Type 0
+TurnedTwice = (ks : List State) → AllStates ks → turned (turned ks) ≡ ks
+
+-- the rounds make a state of a state
+unfoldable pub RoundsGiveStates : Type 0
+RoundsGiveStates = (ks : List State) (a : State) → AllStates ks → IsState a → IsState (ciphered ks a)
