@@ -1,0 +1,45 @@
+-- The laws of columns: a stage is read back by its cells, and two that agree at every cell are equal.
+use mathlib.Core.Path.{_≡_, refl, sym, ap, _∙_}
+use mathlib.Core.List.{List, [], _∷_}
+use Prim.Native.Nat.{ℕ, zero, suc, _+_, _*_, _≤_, _<_}
+use native.Mathlib.Nat.{not-suc-le-zero, add-zero, zero-add}
+use native.Mathlib.Omega.{arith}
+use lib.ListN.{getD}
+use lib.Dec.{lit<}
+use Rattle.schedule.specs.Columns.{cell, columns, fill}
+
+row-cases {ℓ} : (P : ℕ → Type ℓ) → P 0 → P 1 → P 2 → (i : ℕ) → i < 3 → P i
+row-cases P a b c zero h = a
+row-cases P a b c (suc zero) h = b
+row-cases P a b c (suc (suc zero)) h = c
+row-cases P a b c (suc (suc (suc i))) h = absurd (not-suc-le-zero {n = i} (omega arith))
+
+module _ {A : Type 0} where
+  columns-path : (f g : ℕ → ℕ → A) (j n : ℕ) → ((i m : ℕ) → i < 3 → j ≤ m → m < j + n → f i m ≡ g i m) → columns j n f ≡ columns j n g
+  unfolding columns
+  columns-path f g j zero h = refl
+  columns-path f g j (suc n) h =
+      λ t. h 0 j (lit< tt) (omega arith) (omega arith) t ∷ h 1 j (lit< tt) (omega arith) (omega arith) t ∷ h 2 j (lit< tt) (omega arith) (omega arith) t
+      ∷ columns-path f g (suc j) n (λ i m hi l u. h i m hi (omega arith) (omega arith)) t
+
+  pub fill-path : (n : ℕ) (f g : ℕ → ℕ → A) → ((i j : ℕ) → i < 3 → j < n → f i j ≡ g i j) → fill n f ≡ fill n g
+  fill-path n f g h = columns-path f g 0 n (λ i m hi l u. h i m hi (omega arith))
+
+  getD-columns : (d : A) (f : ℕ → ℕ → A) (j n i m : ℕ) → i < 3 → m < n → getD (columns j n f) (i + 3 * m) d ≡ f i (j + m)
+  unfolding columns
+  getD-columns d f j zero i m hi hm = absurd (not-suc-le-zero hm)
+  getD-columns d f j (suc n) i zero hi hm =
+      row-cases (λ (r : ℕ). getD (f 0 j ∷ f 1 j ∷ f 2 j ∷ columns (suc j) n f) (r + 3 * 0) d ≡ f r (j + 0))
+      (ap (f 0) (sym (add-zero j))) (ap (f 1) (sym (add-zero j))) (ap (f 2) (sym (add-zero j))) i hi
+  getD-columns d f j (suc n) i (suc m) hi hm =
+      ap (λ (x : ℕ). getD (f 0 j ∷ f 1 j ∷ f 2 j ∷ columns (suc j) n f) x d) e
+      ∙ getD-columns d f (suc j) n i m hi (omega arith) ∙ ap (f i) (omega arith)
+    where
+      e : i + 3 * suc m ≡ suc (suc (suc (i + 3 * m)))
+      e = omega arith
+
+  pub getD-fill : (d : A) (n : ℕ) (f : ℕ → ℕ → A) (i j : ℕ) → i < 3 → j < n → getD (fill n f) (i + 3 * j) d ≡ f i j
+  getD-fill d n f i j hi hj = getD-columns d f 0 n i j hi hj ∙ ap (f i) (zero-add j)
+
+pub cell-fill : (n : ℕ) (f : ℕ → ℕ → ℕ) (i j : ℕ) → i < 3 → j < n → cell (fill n f) i j ≡ f i j
+cell-fill = getD-fill 0

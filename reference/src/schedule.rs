@@ -1,0 +1,119 @@
+//! The key schedule (sections 3.5 to 3.8).
+//!
+//! A key of 48t bits is a matrix of N = 2t columns, so that N is 4, 6 or 8 and
+//! the period 6t of the schedule is 3N.
+
+use crate::error::Error;
+use crate::layers::sigma;
+use crate::matrix::{Matrix, State, C, IDENTITY};
+use crate::{field, sbox};
+
+/// The cipher key K of a user key (section 3.5): byte i + 3j of the user key is
+/// the entry in row i and column j.
+pub fn cipher_key<const N: usize>(user_key: &[u8]) -> Result<Matrix<N>, Error> {
+    Matrix::from_bytes(user_key).ok_or(Error::KeyLength(user_key.len()))
+}
+
+/// The schedule constant q^(s) (section 3.6): zero for s = 0; otherwise its
+/// first row holds S[2t(s-1) + j] in column j and its other rows are zero.
+///
+/// Panics if 2t(s-1) + j would be no byte; the schedule stays far below that.
+pub fn schedule_constant<const N: usize>(s: usize) -> Matrix<N> {
+    Matrix::from_rule(|i, j| {
+        if s > 0 && i == 0 {
+            let index = u8::try_from(N * (s - 1) + j).expect("the index is a byte");
+            sbox::substitute(index)
+        } else {
+            0
+        }
+    })
+}
+
+/// The transform xi (section 3.7): the first row stays, the second is rotated
+/// one position to the left, the third one position to the right.
+pub fn xi<const N: usize>(a: &Matrix<N>) -> Matrix<N> {
+    Matrix::from_rule(|i, j| match i {
+        0 => a.rows[0][j],
+        1 => a.rows[1][(j + 1) % N],
+        _ => a.rows[2][(j + N - 1) % N],
+    })
+}
+
+/// The matrix E = I + cC (sections 2.3 and 3.7).
+pub fn e_matrix() -> Matrix<3> {
+    IDENTITY.plus(&C.scaled(field::CUBE_ROOT))
+}
+
+/// The transform mu (section 3.7): the product E * a.
+pub fn mu<const N: usize>(a: &Matrix<N>) -> Matrix<N> {
+    e_matrix().times(a)
+}
+
+/// The transform omega (section 3.7): first xi, then mu.
+pub fn omega<const N: usize>(a: &Matrix<N>) -> Matrix<N> {
+    mu(&xi(a))
+}
+
+/// The power omega^m (section 3.7): omega applied m times.
+pub fn omega_power<const N: usize>(m: usize, a: &Matrix<N>) -> Matrix<N> {
+    let mut result = *a;
+    for _ in 0..m {
+        result = omega(&result);
+    }
+    result
+}
+
+/// The accumulated schedule constant Q^(s) (section 3.7): the sum of
+/// omega^(s-i+1)(q^(i)) for i from 0 to s. The stages are not computed from it;
+/// it is here to test the closed form.
+pub fn accumulated_constant<const N: usize>(s: usize) -> Matrix<N> {
+    let mut sum = Matrix::zero();
+    for i in 0..=s {
+        sum = sum.plus(&omega_power(s - i + 1, &schedule_constant(i)));
+    }
+    sum
+}
+
+/// The key evolution psi_r (section 3.7): first sigma[q^(r)], then omega. It
+/// takes the key stage r - 1 to the key stage r.
+pub fn psi<const N: usize>(r: usize, previous_stage: &Matrix<N>) -> Matrix<N> {
+    omega(&sigma(&schedule_constant(r), previous_stage))
+}
+
+/// The key stage K^(r) (section 3.7): psi_1, ..., psi_r applied to the key.
+pub fn key_stage<const N: usize>(key: &Matrix<N>, r: usize) -> Matrix<N> {
+    let mut stage = *key;
+    for i in 1..=r {
+        stage = psi(i, &stage);
+    }
+    stage
+}
+
+/// The key selection phi (section 3.8), given the key stage: the subkey is the
+/// first four columns of the stage, with S applied to the first row.
+pub fn select<const N: usize>(stage: &Matrix<N>) -> State {
+    Matrix::from_rule(|i, j| {
+        if i == 0 {
+            sbox::substitute(stage.rows[0][j])
+        } else {
+            stage.rows[i][j]
+        }
+    })
+}
+
+/// The round subkeys 0 to R of a user key of 12, 18 or 24 bytes (sections 3.5
+/// to 3.8). The number of rounds is not checked here.
+pub fn round_subkeys(user_key: &[u8], rounds: usize) -> Result<Vec<State>, Error> {
+    match user_key.len() {
+        12 => Ok(subkeys_of(&cipher_key::<4>(user_key)?, rounds)),
+        18 => Ok(subkeys_of(&cipher_key::<6>(user_key)?, rounds)),
+        24 => Ok(subkeys_of(&cipher_key::<8>(user_key)?, rounds)),
+        other => Err(Error::KeyLength(other)),
+    }
+}
+
+/// The round subkeys 0 to R of a cipher key (section 3.8), each from its own
+/// key stage.
+fn subkeys_of<const N: usize>(key: &Matrix<N>, rounds: usize) -> Vec<State> {
+    (0..=rounds).map(|r| select(&key_stage(key, r))).collect()
+}

@@ -1,0 +1,165 @@
+//! Runs the program. Its inputs are drawn again here, with another copy of the
+//! generator and from the words of README.md, so that those words are tested.
+
+use std::process::{Command, Output};
+
+use curupira_reference::cipher::{decrypt, encrypt};
+
+/// The generator of README.md, starting from x = 1.
+struct Draw {
+    x: u64,
+}
+
+impl Draw {
+    fn new() -> Self {
+        Draw { x: 1 }
+    }
+
+    /// The next `count` bytes, as lowercase hex.
+    fn hex(&mut self, count: usize) -> String {
+        let mut text = String::new();
+        for _ in 0..count {
+            self.x = (self.x * 1103515245 + 12345) % 2147483648;
+            text.push_str(&format!("{:02x}", (self.x / 65536) % 256));
+        }
+        text
+    }
+}
+
+/// Runs the program with the given arguments.
+fn run(arguments: &[&str]) -> Output {
+    Command::new(env!("CARGO_BIN_EXE_reference"))
+        .args(arguments)
+        .output()
+        .expect("the program can be started")
+}
+
+/// The lines that a subcommand prints, each split into its fields.
+fn lines(subcommand: &str) -> Vec<Vec<String>> {
+    let output = run(&[subcommand]);
+    assert_eq!(output.status.code(), Some(0));
+    assert!(output.stderr.is_empty());
+    let text = String::from_utf8(output.stdout).expect("the output is text");
+    assert!(text.ends_with('\n'));
+    text.lines()
+        .map(|line| line.split(' ').map(String::from).collect())
+        .collect()
+}
+
+/// The bytes that hexadecimal digits stand for.
+fn bytes(hex: &str) -> Vec<u8> {
+    (0..hex.len() / 2)
+        .map(|k| u8::from_str_radix(&hex[2 * k..2 * k + 2], 16).expect("hex digits"))
+        .collect()
+}
+
+/// The key lengths with their least and greatest numbers of rounds (Table 2).
+const SIZES: [(usize, usize, usize); 3] = [(12, 10, 11), (18, 14, 17), (24, 18, 23)];
+
+#[test]
+fn the_generator_starts_as_documented() {
+    assert_eq!(Draw::new().hex(8), "c67e816b4bfbe2fb");
+}
+
+#[test]
+fn bad_usage_ends_with_status_two() {
+    let wrong: [&[&str]; 5] = [&[], &["other"], &[""], &["SBOX"], &["sbox", "layers"]];
+    for arguments in wrong {
+        let output = run(arguments);
+        assert_eq!(output.status.code(), Some(2));
+        assert!(output.stdout.is_empty());
+        assert!(!output.stderr.is_empty());
+    }
+}
+
+#[test]
+fn sbox_prints_the_published_table() {
+    let printed: Vec<String> = lines("sbox").iter().map(|line| line.join(" ")).collect();
+    let published = include_str!("../published/sbox.txt").to_lowercase();
+    assert_eq!(printed, published.lines().collect::<Vec<&str>>());
+}
+
+#[test]
+fn layers_draws_its_inputs_as_documented() {
+    let mut draw = Draw::new();
+    let printed = lines("layers");
+    assert_eq!(printed.len(), 32 * 4);
+    for group in printed.chunks(4) {
+        let (state, key) = (draw.hex(12), draw.hex(12));
+        for (line, name) in group.iter().zip(["gamma", "pi", "theta"]) {
+            assert_eq!(line[..2], [name, &state]);
+            assert_eq!((line.len(), line[2].len()), (3, 24));
+        }
+        assert_eq!(group[3][..3], ["sigma", &state, &key]);
+        assert_eq!((group[3].len(), group[3][3].len()), (4, 24));
+    }
+}
+
+#[test]
+fn rounds_draws_its_inputs_as_documented() {
+    let mut draw = Draw::new();
+    let printed = lines("rounds");
+    let mut groups = printed.chunks(3);
+    for rounds in 1..=23 {
+        for _ in 0..4 {
+            let (list, input) = (draw.hex(12 * (rounds + 1)), draw.hex(12));
+            let group = groups.next().expect("there are more lines");
+            let number = rounds.to_string();
+            let output = &group[0][4];
+            assert_eq!(group[0], ["rounds", &number, &list, &input, output]);
+            assert_eq!(group[1], ["inverse", &number, &list, output, &input]);
+            assert_eq!(group[2][..3], ["turned", &number, &list]);
+            assert_eq!((group[2].len(), group[2][3].len()), (4, list.len()));
+        }
+    }
+    assert!(groups.next().is_none());
+}
+
+#[test]
+fn blocks_draws_its_inputs_as_documented() {
+    let mut draw = Draw::new();
+    let printed = lines("blocks");
+    let mut pairs = printed.chunks(2);
+    for (key_length, least, greatest) in SIZES {
+        for rounds in least..=greatest {
+            for _ in 0..16 {
+                let (key, plain, block) = (draw.hex(key_length), draw.hex(12), draw.hex(12));
+                let pair = pairs.next().expect("there are more lines");
+                let number = rounds.to_string();
+                let (cipher, result) = (&pair[0][4], &pair[1][4]);
+                assert_eq!(pair[0], ["encrypt", &key, &number, &plain, cipher]);
+                assert_eq!(pair[1], ["decrypt", &key, &number, &block, result]);
+                let key = bytes(&key);
+                assert_eq!(decrypt(&key, rounds, &bytes(cipher)), Ok(bytes(&plain)));
+                assert_eq!(encrypt(&key, rounds, &bytes(result)), Ok(bytes(&block)));
+            }
+        }
+    }
+    assert!(pairs.next().is_none());
+}
+
+#[test]
+fn stages_draws_its_inputs_as_documented() {
+    let mut draw = Draw::new();
+    let printed = lines("stages");
+    let mut rest = printed.iter();
+    for (key_length, _, _) in SIZES {
+        for number in 0..4 {
+            let key = if number == 0 {
+                "00".repeat(key_length)
+            } else {
+                draw.hex(key_length)
+            };
+            for r in 0..key_length {
+                let line = rest.next().expect("there are more lines");
+                assert_eq!(line[..3], ["stage", &key, &r.to_string()]);
+                assert_eq!(line.len(), 5);
+                assert_eq!((line[3].len(), line[4].len()), (2 * key_length, 24));
+                if r == 0 {
+                    assert_eq!(line[3], key);
+                }
+            }
+        }
+    }
+    assert!(rest.next().is_none());
+}

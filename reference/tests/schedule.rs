@@ -1,0 +1,281 @@
+//! What sections 3.5 to 3.8 say about the key schedule. A check over all key
+//! sizes runs it for N = 2t = 4, 6 and 8 columns.
+
+use curupira_reference::error::Error;
+use curupira_reference::generator::Generator;
+use curupira_reference::matrix::{Matrix, IDENTITY};
+use curupira_reference::sbox::substitute;
+use curupira_reference::schedule::{
+    accumulated_constant, cipher_key, e_matrix, key_stage, mu, omega, omega_power, psi,
+    round_subkeys, schedule_constant, select, xi,
+};
+use curupira_reference::vectors::hex;
+
+/// A few cipher keys of N columns: the zero key, and pseudo-random ones.
+fn some_keys<const N: usize>() -> Vec<Matrix<N>> {
+    let mut generator = Generator::new(20);
+    let mut keys = vec![Matrix::zero()];
+    for _ in 0..8 {
+        let bytes = generator.bytes(3 * N);
+        keys.push(cipher_key(&bytes).expect("a key of the right length"));
+    }
+    keys
+}
+
+/// The basis of M_N of section 3.7: matrices with a single entry 1.
+fn basis<const N: usize>() -> Vec<Matrix<N>> {
+    let mut elements = Vec::new();
+    for k in 0..3 {
+        for l in 0..N {
+            elements.push(Matrix::from_rule(|i, j| u8::from((i, j) == (k, l))));
+        }
+    }
+    elements
+}
+
+#[test]
+fn the_user_key_fills_the_cipher_key_by_columns() {
+    let user_key: Vec<u8> = (0..18).collect();
+    let key: Matrix<6> = cipher_key(&user_key).expect("18 bytes are 6 columns");
+    assert_eq!(key.rows[0], [0, 3, 6, 9, 12, 15]);
+    assert_eq!(key.rows[1], [1, 4, 7, 10, 13, 16]);
+    assert_eq!(key.rows[2], [2, 5, 8, 11, 14, 17]);
+    assert_eq!(key.to_bytes(), user_key);
+    assert_eq!(cipher_key::<4>(&user_key), Err(Error::KeyLength(18)));
+}
+
+/// Section 3.6 says that exactly t S-box entries are used per round. By its own
+/// definition they are 2t.
+fn check_constants<const N: usize>() {
+    assert_eq!(schedule_constant::<N>(0), Matrix::zero());
+    let mut used = Vec::new();
+    for s in 1..3 * N {
+        let constant = schedule_constant::<N>(s);
+        assert_eq!(constant.rows[1], [0; N]);
+        assert_eq!(constant.rows[2], [0; N]);
+        used.extend(constant.rows[0]);
+    }
+    let expected: Vec<u8> = (0..=255).take(N * (3 * N - 1)).map(substitute).collect();
+    assert_eq!(used, expected);
+}
+
+#[test]
+fn the_constants_take_two_t_sbox_entries_per_round() {
+    check_constants::<4>();
+    check_constants::<6>();
+    check_constants::<8>();
+}
+
+/// Whether every two constants of the schedule are different.
+fn constants_differ<const N: usize>() -> bool {
+    (0..3 * N).all(|s| (0..s).all(|r| schedule_constant::<N>(r) != schedule_constant(s)))
+}
+
+/// The constants of the schedule that have a byte FF, in which all bit
+/// positions are equal.
+fn constants_with_ff<const N: usize>() -> Vec<usize> {
+    (1..3 * N)
+        .filter(|s| schedule_constant::<N>(*s).rows[0].contains(&0xFF))
+        .collect()
+}
+
+/// Section 3.6: constants are different in each round; they should also not be
+/// "equal for all bit positions in a byte". Among the bytes taken from the S-box
+/// one is FF (that is S[42]), in q^(12) for t = 3 and in q^(9) for t = 4.
+#[test]
+fn the_constants_differ_but_one_byte_is_ff() {
+    assert!(constants_differ::<4>() && constants_differ::<6>() && constants_differ::<8>());
+    assert!(constants_with_ff::<4>().is_empty());
+    assert_eq!(constants_with_ff::<6>(), [12]);
+    assert_eq!(constants_with_ff::<8>(), [9]);
+}
+
+#[test]
+fn xi_rotates_rows_in_the_stated_directions() {
+    let a: Matrix<4> = Matrix {
+        rows: [[0, 1, 2, 3], [10, 11, 12, 13], [20, 21, 22, 23]],
+    };
+    let b: Matrix<4> = Matrix {
+        rows: [[0, 1, 2, 3], [11, 12, 13, 10], [23, 20, 21, 22]],
+    };
+    assert_eq!(xi(&a), b);
+}
+
+#[test]
+fn mu_has_the_stated_inverse() {
+    let inverse_e = e_matrix().inverse().expect("E is invertible");
+    for key in some_keys::<8>() {
+        assert_eq!(inverse_e.times(&mu(&key)), key);
+    }
+    // c^3 = 1 makes E^3 = I.
+    let e = e_matrix();
+    assert_eq!(e.times(&e.times(&e)), IDENTITY);
+}
+
+/// Section 3.7: omega is xi first and mu second. A single 1 at the start of the
+/// second row moves to the last column, which is then multiplied by E.
+#[test]
+fn omega_rotates_before_it_mixes() {
+    let a: Matrix<4> = Matrix {
+        rows: [[0; 4], [1, 0, 0, 0], [0; 4]],
+    };
+    let b: Matrix<4> = Matrix {
+        rows: [[0, 0, 0, 0x1C], [0, 0, 0, 0x1D], [0, 0, 0, 0x1C]],
+    };
+    assert_eq!(omega(&a), b);
+}
+
+/// Section 3.7: on each element of the basis, omega^m is the identity for
+/// m = 6t and for no smaller positive m. As omega is linear over GF(2^8), it
+/// has period exactly 6t on M_2t.
+fn check_period<const N: usize>() {
+    for element in basis::<N>() {
+        let mut image = element;
+        for _ in 1..3 * N {
+            image = omega(&image);
+            assert_ne!(image, element);
+        }
+        assert_eq!(omega(&image), element);
+    }
+}
+
+#[test]
+fn omega_has_period_exactly_six_t() {
+    check_period::<4>();
+    check_period::<6>();
+    check_period::<8>();
+}
+
+/// What the check on the basis rests on.
+fn check_linearity<const N: usize>() {
+    for a in some_keys::<N>() {
+        for b in some_keys::<N>() {
+            let combination = a.scaled(0x53).plus(&b);
+            let images = omega(&a).scaled(0x53).plus(&omega(&b));
+            assert_eq!(omega(&combination), images);
+        }
+    }
+}
+
+#[test]
+fn omega_is_linear() {
+    check_linearity::<4>();
+    check_linearity::<6>();
+    check_linearity::<8>();
+}
+
+/// Section 3.7: K^(r) = omega^r(K) + Q^(r).
+fn check_closed_form<const N: usize>() {
+    for r in 0..3 * N {
+        let constant = accumulated_constant(r);
+        for key in some_keys::<N>() {
+            let closed_form = omega_power(r, &key).plus(&constant);
+            assert_eq!(key_stage(&key, r), closed_form);
+        }
+    }
+}
+
+#[test]
+fn the_closed_form_of_a_stage_holds() {
+    check_closed_form::<4>();
+    check_closed_form::<6>();
+    check_closed_form::<8>();
+}
+
+/// Section 3.7 with m = 6t: "K = omega(K^(m-1)) + Q^(m-1)". As printed, this is
+/// false for every key. It misses K by the same nonzero amount,
+/// omega(Q^(m-1)) + Q^(m-1), whatever the key.
+fn check_printed_recovery_fails<const N: usize>() {
+    let m = 3 * N;
+    let constant: Matrix<N> = accumulated_constant(m - 1);
+    let error = omega(&constant).plus(&constant);
+    assert_ne!(error, Matrix::zero());
+    for key in some_keys::<N>() {
+        let printed = omega(&key_stage(&key, m - 1)).plus(&constant);
+        assert_eq!(printed, key.plus(&error));
+        assert_ne!(printed, key);
+    }
+}
+
+#[test]
+fn the_printed_recovery_of_the_key_is_false() {
+    check_printed_recovery_fails::<4>();
+    check_printed_recovery_fails::<6>();
+    check_printed_recovery_fails::<8>();
+}
+
+/// What is true instead, with m = 6t: Q^(m-1) is to be added before omega, or
+/// omega(Q^(m-1)) after it; or one more step of the schedule is made, and then
+/// Q^(m) is added.
+fn check_true_recovery<const N: usize>() {
+    let m = 3 * N;
+    let constant: Matrix<N> = accumulated_constant(m - 1);
+    for key in some_keys::<N>() {
+        let last = key_stage(&key, m - 1);
+        assert_eq!(omega(&last.plus(&constant)), key);
+        assert_eq!(omega(&last).plus(&omega(&constant)), key);
+        assert_eq!(psi(m, &last).plus(&accumulated_constant(m)), key);
+    }
+}
+
+#[test]
+fn the_key_is_recovered_if_the_constant_is_added_before_omega() {
+    check_true_recovery::<4>();
+    check_true_recovery::<6>();
+    check_true_recovery::<8>();
+}
+
+/// The constants that README.md prints for the recovery of the key.
+fn check_recovery_constants<const N: usize>(constant: &str, image: &str) {
+    let computed: Matrix<N> = accumulated_constant(3 * N - 1);
+    assert_eq!(hex(&computed.to_bytes()), constant);
+    assert_eq!(hex(&omega(&computed).to_bytes()), image);
+}
+
+#[test]
+fn the_recovery_constants_of_the_readme_are_right() {
+    check_recovery_constants::<4>("129b2e3b5b649eae1b0a310e", "e8a1f434a121e54a1fc352d2");
+    check_recovery_constants::<6>(
+        "1377e3aabf5ad61138c08949fdae13124e6b",
+        "f8548069d220bae536abc55340f3f42e4b2f",
+    );
+    check_recovery_constants::<8>(
+        "de830c3728881ad6223f464e18ed167cad899c8707980488",
+        "02f45453b2685804ca5a8847b90cef18e3720d9518859e1a",
+    );
+}
+
+/// Section 3.8: S on the first row, the rest as it is, four columns.
+#[test]
+fn the_subkey_is_the_first_four_columns() {
+    let stage: Matrix<6> = Matrix {
+        rows: [
+            [0, 1, 2, 3, 4, 5],
+            [10, 11, 12, 13, 14, 15],
+            [20, 21, 22, 23, 24, 25],
+        ],
+    };
+    let subkey = select(&stage);
+    assert_eq!(subkey.rows[0], [0, 1, 2, 3].map(substitute));
+    assert_eq!(subkey.rows[1], [10, 11, 12, 13]);
+    assert_eq!(subkey.rows[2], [20, 21, 22, 23]);
+}
+
+/// Sections 3.7 and 3.8: subkeys follow the stages, from stage 0 on.
+fn check_subkeys<const N: usize>() {
+    for key in some_keys::<N>() {
+        let subkeys = round_subkeys(&key.to_bytes(), 3 * N - 1).expect("an allowed key length");
+        assert_eq!(subkeys.len(), 3 * N);
+        for (r, subkey) in subkeys.iter().enumerate() {
+            assert_eq!(*subkey, select(&key_stage(&key, r)));
+        }
+    }
+}
+
+#[test]
+fn the_subkeys_are_selected_from_the_stages() {
+    check_subkeys::<4>();
+    check_subkeys::<6>();
+    check_subkeys::<8>();
+    assert_eq!(round_subkeys(&[0; 13], 10), Err(Error::KeyLength(13)));
+}
