@@ -1,11 +1,11 @@
 -- The laws of addition, on all numbers.
-use mathlib.Core.Path.{_≡_, refl, sym, ap, ap₂, _∙_, subst}
-use Prim.Native.Nat.{ℕ, zero, suc, _+_, _-_, _*_, _/_, _%_, _^_, _≤_, _<_}
-use native.Mathlib.Nat.{le-of-suc-le-suc, not-suc-le-zero, mod-lt, zero-lt-suc, zero-mul, one-mul, mul-comm, add-zero}
+use mathlib.Core.Path.{_≡_, refl, sym, ap, ap₂, _∙_}
+use Prim.Native.Nat.{ℕ, zero, suc, _+_, _-_, _*_, _/_, _%_, _^_, _<_}
+use native.Mathlib.Nat.{le-of-suc-le-suc, not-suc-le-zero, mod-lt, zero-lt-suc, zero-mul, one-mul, add-zero}
 use native.Mathlib.Omega.{arith}
 use lib.Arith.{bin-ind, digits-mod}
 use lib.Pow.{pow-pos}
-use lib.Bits.{bitXor, differ, xor-step, xor-shr, xor-mod, xor-comm, xor-self, xor-zero-r, xor-lt, xor-block, xor-shifted}
+use lib.Bits.{bitXor, differ, xor-step, xor-shr, xor-mod, xor-comm, xor-self, xor-zero-r, xor-lt, xor-block}
 use Rattle.field.specs.Field.{_⊕_}
 
 -- a digit is 0 or 1

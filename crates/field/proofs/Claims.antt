@@ -1,11 +1,11 @@
 -- A term of each type of specs/Claims.antt.
 use mathlib.Core.Path.{_≡_, refl, sym, ap, ap₂, _∙_}
 use Prim.Native.Nat.{ℕ, zero, suc, _+_, _*_, _/_, _%_, _^_, _<_}
-use native.Mathlib.Nat.{mul-assoc, mul-comm, zero-mul, one-mul}
+use native.Mathlib.Nat.{mul-assoc, mul-comm, zero-mul}
 use lib.Bits.{bitXor}
-use Rattle.field.specs.Field.{_⊕_, coefficient, product, modulus, reduced, times, cubeRoot}
+use Rattle.field.specs.Field.{_⊕_, coefficient, product, modulus, reduced, times}
 use Rattle.field.specs.Claims.{AdditionLaws, MultiplicationLaws, TimesIsRemainder, CubeRootLaws}
-use Rattle.field.proofs.Addition.{digit-cases, bit, assoc, comm, left-comm, cancel, self, zero-right, byte, shifted}
+use Rattle.field.proofs.Addition.{digit-cases, bit, assoc, comm, left-comm, self, zero-right, byte, shifted}
 use Rattle.field.proofs.Linear.{product-right, times-left, times-right}
 use Rattle.field.proofs.Multiplication.{times-comm, times-assoc, one-times, times-byte}
 
@@ -69,4 +69,4 @@ remainder (suc n) a =
 
 pub times-is-remainder : TimesIsRemainder
 unfolding TimesIsRemainder times
-times-is-remainder a b = remainder 7 (product 8 a b)
+times-is-remainder a b = remainder _ (product 8 a b)

@@ -6,7 +6,7 @@ use lib.Bits.{bitXor}
 use Rattle.field.specs.Field.{times, product, reduced, cubeRoot}
 use Rattle.field.proofs.Addition.{assoc, comm, left-comm}
 use Rattle.field.proofs.Linear.{Linear, same, agree-bytes, times-right}
-use Rattle.field.proofs.Computed.{all, passed}
+use Rattle.field.proofs.Computed.{passed}
 
 pub twice-is : (x : ℕ) → x < 256 → bitXor (x * 2 % 256) (x / 128 * 77) ≡ times 2 x
 unfolding times product reduced

@@ -1,17 +1,17 @@
 -- Linear maps: those that keep sums. The product and the remainder are linear on all numbers, so two of them that agree at the
 -- powers of two agree at every byte.
-use mathlib.Core.Path.{_≡_, refl, sym, ap, ap₂, _∙_, subst}
-use Prim.Native.Nat.{ℕ, zero, suc, _+_, _-_, _*_, _/_, _%_, _^_, _≤_, _<_}
-use native.Mathlib.Nat.{mod-lt, zero-lt-suc, zero-mul, one-mul, pow-suc, div-lt-iff-lt-mul}
+use mathlib.Core.Path.{_≡_, refl, sym, ap, ap₂, _∙_}
+use Prim.Native.Nat.{ℕ, zero, suc, _+_, _-_, _*_, _/_, _%_, _^_, _<_}
+use native.Mathlib.Nat.{mod-lt, zero-mul, one-mul, pow-suc, div-lt-iff-lt-mul}
 use native.Mathlib.Omega.{arith}
 use mathlib.Core.Bool.{Bool}
 use lib.Dec.{T, eqb, eqb→eq}
 use lib.Arith.{lt-one}
 use lib.Pow.{pow-pos, split}
-use lib.Bits.{bitXor, xor-mod, xor-shr, xor-self, xor-shifted, xor-zero-r}
-use Rattle.field.specs.Field.{_⊕_, coefficient, product, reduced, times}
+use lib.Bits.{bitXor, xor-mod, xor-shr, xor-self, xor-shifted}
+use Rattle.field.specs.Field.{_⊕_, coefficient, product, modulus, reduced, times}
 use Rattle.field.proofs.Computed.{all, passed}
-use Rattle.field.proofs.Addition.{digit-cases, bit, assoc, comm, left-comm, cancel, exchange, digit-sum, scale-left, scale-right, shifted}
+use Rattle.field.proofs.Addition.{digit-cases, bit, exchange, digit-sum, scale-left, scale-right, shifted}
 
 abbrev pub Linear : (ℕ → ℕ) → Type 0
 Linear f = (x y : ℕ) → f (x ⊕ y) ≡ f x ⊕ f y
@@ -36,18 +36,18 @@ unfolding reduced
 reduced-linear zero x y = refl
 reduced-linear (suc n) x y =
     ap (reduced n)
-    (ap (bitXor (x ⊕ y)) (ap (λ (d : ℕ). d * (0x14D * 2 ^ n)) (digit-sum (8 + n) x y)
-    ∙ scale-left (0x14D * 2 ^ n) (coefficient x (8 + n)) (coefficient y (8 + n)) (bit (x / 2 ^ (8 + n))) (bit (y / 2 ^ (8 + n))))
-    ∙ exchange x y (coefficient x (8 + n) * (0x14D * 2 ^ n)) (coefficient y (8 + n) * (0x14D * 2 ^ n)))
-    ∙ reduced-linear n (x ⊕ (coefficient x (8 + n) * (0x14D * 2 ^ n))) (y ⊕ (coefficient y (8 + n) * (0x14D * 2 ^ n)))
+    (ap (bitXor (x ⊕ y)) (ap (λ (d : ℕ). d * (modulus * 2 ^ n)) (digit-sum (8 + n) x y)
+    ∙ scale-left (modulus * 2 ^ n) (coefficient x (8 + n)) (coefficient y (8 + n)) (bit (x / 2 ^ (8 + n))) (bit (y / 2 ^ (8 + n))))
+    ∙ exchange x y (coefficient x (8 + n) * (modulus * 2 ^ n)) (coefficient y (8 + n) * (modulus * 2 ^ n)))
+    ∙ reduced-linear n (x ⊕ (coefficient x (8 + n) * (modulus * 2 ^ n))) (y ⊕ (coefficient y (8 + n) * (modulus * 2 ^ n)))
 
 pub times-right : (a : ℕ) → Linear (times a)
 unfolding times
-times-right a x y = ap (reduced 7) (product-right 8 a x y) ∙ reduced-linear 7 (product 8 a x) (product 8 a y)
+times-right a x y = ap (reduced _) (product-right 8 a x y) ∙ reduced-linear _ (product 8 a x) (product 8 a y)
 
 pub times-left : (b : ℕ) → Linear (λ a. times a b)
 unfolding times
-times-left b x y = ap (reduced 7) (product-left 8 b x y) ∙ reduced-linear 7 (product 8 x b) (product 8 y b)
+times-left b x y = ap (reduced _) (product-left 8 b x y) ∙ reduced-linear _ (product 8 x b) (product 8 y b)
 
 pub at-zero : (f : ℕ → ℕ) → Linear f → f 0 ≡ 0
 at-zero f l = l 0 0 ∙ xor-self (f 0)

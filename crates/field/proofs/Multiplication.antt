@@ -1,11 +1,11 @@
 -- The laws of multiplication: each side is linear in each number, so a test at the powers of two shows them for every byte.
-use mathlib.Core.Path.{_≡_, refl, sym, ap, ap₂, _∙_, subst}
-use mathlib.Core.Bool.{Bool, true, false}
-use Prim.Native.Nat.{ℕ, zero, suc, _+_, _-_, _*_, _/_, _%_, _^_, _≤_, _<_}
+use mathlib.Core.Path.{_≡_, refl, ap, _∙_, subst}
+use mathlib.Core.Bool.{Bool}
+use Prim.Native.Nat.{ℕ, _-_, _%_, _^_, _<_}
 use native.Mathlib.Nat.{mod-lt, zero-lt-suc}
 use lib.Dec.{T, eqb, eqb→eq}
-use lib.Bits.{bitXor, xor-mod}
-use Rattle.field.specs.Field.{_⊕_, product, reduced, times}
+use lib.Bits.{xor-mod}
+use Rattle.field.specs.Field.{product, reduced, times}
 use Rattle.field.proofs.Computed.{all, passed}
 use Rattle.field.proofs.Linear.{Linear, agree, same, agree-bytes, at-zero, times-left, times-right}
 

@@ -2,17 +2,15 @@
 -- matrix times itself, and what the code makes of a column, are compared with the definition by one computed test.
 use mathlib.Core.Path.{_≡_, refl, sym, ap, ap₂, _∙_}
 use mathlib.Core.Bool.{Bool, _&&_}
-use mathlib.Core.List.{[], _∷_}
 use Prim.Native.Nat.{ℕ, zero, suc, _<_}
-use lib.ListN.{getD}
 use lib.Dec.{T, lit<}
 use lib.Bits.{bitXor}
 use Rattle.field.specs.Field.{_⊕_, times, product, reduced}
-use Rattle.field.proofs.Computed.{and-left, and-right, all, passed}
-use Rattle.field.proofs.Addition.{assoc, comm, left-comm, zero-right, byte}
+use Rattle.field.proofs.Computed.{and-left, and-right, passed, entries-below}
+use Rattle.field.proofs.Addition.{assoc, left-comm, zero-right, byte}
 use Rattle.field.proofs.Linear.{same, agree-bytes, times-right}
 use Rattle.field.proofs.Multiplication.{times-byte}
-use Rattle.layers.specs.Layers.{entry, rowTimes}
+use Rattle.layers.specs.Layers.{matrix, entry, rowTimes}
 
 -- ---- a map of a column's three bytes that keeps sums
 abbrev pub Linear₃ : (ℕ → ℕ → ℕ → ℕ) → Type 0
@@ -68,17 +66,8 @@ unfolding twice times product reduced same same₃
 twice-is i h = agree₃ (twice i) (row i) (twice-linear i) (row-linear i) (passed 3 (λ i. same₃ (twice i) (row i)) tt i h)
 
 -- ---- a row times a column of bytes is a byte
-row-byte : (a b c k : ℕ) → a < 256 → b < 256 → c < 256 → getD (a ∷ b ∷ c ∷ []) k 0 < 256
-row-byte a b c zero ha hb hc = ha
-row-byte a b c (suc zero) ha hb hc = hb
-row-byte a b c (suc (suc zero)) ha hb hc = hc
-row-byte a b c (suc (suc (suc k))) ha hb hc = lit< tt
-
 entry-byte : (i k : ℕ) → entry i k < 256
-entry-byte zero k = row-byte 3 2 2 k (lit< tt) (lit< tt) (lit< tt)
-entry-byte (suc zero) k = row-byte 4 5 4 k (lit< tt) (lit< tt) (lit< tt)
-entry-byte (suc (suc zero)) k = row-byte 6 6 7 k (lit< tt) (lit< tt) (lit< tt)
-entry-byte (suc (suc (suc i))) k = lit< tt
+entry-byte = entries-below 256 (lit< tt) matrix tt
 
 pub rowTimes-byte : (i x y z : ℕ) → x < 256 → y < 256 → z < 256 → rowTimes i x y z < 256
 rowTimes-byte i x y z hx hy hz =

@@ -19,10 +19,10 @@ permuted a = build (λ i j. at a i (bitXor i j))
 abbrev pub matrix : List (List ℕ)
 matrix = (3 ∷ 2 ∷ 2 ∷ []) ∷ (4 ∷ 5 ∷ 4 ∷ []) ∷ (6 ∷ 6 ∷ 7 ∷ []) ∷ []
 
--- row i of the matrix times the column x, y, z
 abbrev pub entry : ℕ → ℕ → ℕ
 entry i k = getD (getD matrix i []) k 0
 
+-- row i of the matrix times the column x, y, z
 abbrev pub rowTimes : ℕ → ℕ → ℕ → ℕ → ℕ
 rowTimes i x y z = times (entry i 0) x ⊕ (times (entry i 1) y ⊕ times (entry i 2) z)
 

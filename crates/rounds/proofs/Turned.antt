@@ -1,6 +1,6 @@
 -- The turned list, place by place and by its ends.
 use mathlib.Core.Path.{_≡_, refl, sym, ap, ap₂, _∙_}
-use mathlib.Core.Logic.{_⊎_, inl, inr}
+use mathlib.Core.Logic.{inl, inr}
 use mathlib.Core.Bool.{Bool, true, false, cond, _||_, or-true}
 use mathlib.Core.List.{List, [], _∷_, _++_, map, reverse, reverse-cons}
 use Prim.Native.Nat.{ℕ, zero, suc, _+_, _-_, _≤_, _<_}
@@ -12,7 +12,7 @@ use lib.Seq.{ext-getD, getD-at}
 use borrow.Author.Tests.{eq-eqb, ne-eqb}
 use Rattle.layers.specs.State.{State, IsState}
 use Rattle.layers.specs.Layers.{diffused}
-use Rattle.layers.proofs.Layers.{diffused-diffused, diffused-state}
+use Rattle.layers.proofs.Layers.{diffused-diffused}
 use Rattle.rounds.specs.Rounds.{listedFrom, turnedAt, turned, AllStates}
 
 -- ---- lists by their elements

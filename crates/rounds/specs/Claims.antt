@@ -1,7 +1,7 @@
 -- What is claimed of the rounds. A term of each type stands in proofs/Claims.antt.
 use mathlib.Core.Path.{_≡_}
 use mathlib.Core.List.{List}
-use Prim.Native.Nat.{ℕ, _≤_}
+use Prim.Native.Nat.{_≤_}
 use lib.ListN.{length}
 use Rattle.layers.specs.State.{State, IsState}
 use Rattle.rounds.specs.Rounds.{ciphered, turned, AllStates}

@@ -1,32 +1,20 @@
 -- The laws of the S-box: its own inverse and bound, by one computed test over the 256 bytes; and the regrouping by shifts and masks.
 use mathlib.Core.Path.{_≡_}
-use mathlib.Core.Bool.{Bool, true, false, _&&_}
-use mathlib.Core.List.{List, [], _∷_}
-use Prim.Native.Nat.{ℕ, zero, suc, _*_, _/_, _%_, _<_}
-use lib.ListN.{getD}
+use mathlib.Core.Bool.{Bool, _&&_}
+use Prim.Native.Nat.{ℕ, _*_, _/_, _%_, _<_}
 use lib.Dec.{T, eqb, eqb→eq, ltb, ltb→lt, lit<}
 use lib.Bits.{bitAnd, bitOr}
-use Rattle.field.proofs.Computed.{and-left, and-right, all, passed}
+use Rattle.field.proofs.Computed.{and-left, and-right, all, passed, entry-below}
 use Rattle.sbox.specs.Sbox.{tableP, tableQ, miniP, miniQ, joinTops, joinLows, joinHalves, sbox}
 
 -- ---- the tables' entries have four bits
-each : List ℕ → Bool
-each [] = true
-each (x ∷ xs) = ltb x 16 && each xs
-
-each-entry : (xs : List ℕ) → T (each xs) → (k : ℕ) → getD xs k 0 < 16
-unfolding each
-each-entry [] t k = lit< tt
-each-entry (x ∷ xs) t zero = ltb→lt x 16 (and-left (ltb x 16) (each xs) t)
-each-entry (x ∷ xs) t (suc k) = each-entry xs (and-right (ltb x 16) (each xs) t) k
-
 pub p-small : (x : ℕ) → miniP x < 16
-unfolding tableP each
-p-small x = each-entry tableP tt x
+unfolding tableP
+p-small = entry-below 16 (lit< tt) tableP tt
 
 pub q-small : (x : ℕ) → miniQ x < 16
-unfolding tableQ each
-q-small x = each-entry tableQ tt x
+unfolding tableQ
+q-small = entry-below 16 (lit< tt) tableQ tt
 
 -- ---- the S-box undoes itself
 right : ℕ → Bool

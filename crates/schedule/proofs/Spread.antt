@@ -1,5 +1,5 @@
 -- The column rule: what it makes of a stage, that c and c + 1 undo each other, and what the code makes of one column.
-use mathlib.Core.Path.{_≡_, refl, sym, ap, ap₂, _∙_, subst}
+use mathlib.Core.Path.{_≡_, sym, ap, ap₂, _∙_, subst}
 use mathlib.Core.List.{List, [], _∷_}
 use Prim.Native.Nat.{ℕ, _<_}
 use lib.Dec.{T, lit<}
@@ -37,7 +37,7 @@ undoes : (w m : ℕ) → T (same (λ s. times w (s ⊕ times m s)) (times m)) �
 undoes w m t = agree-bytes (λ s. times w (s ⊕ times m s)) (times m) linear (times-right m) t
   where
     linear : Linear (λ s. times w (s ⊕ times m s))
-    linear x y = simp (times-right, assoc, left-comm, comm)
+    linear x y = simp (times-right, assoc, left-comm)
 
 pub undoes-c : Undoes (cubeRoot ⊕ 1) cubeRoot
 unfolding same times product reduced
@@ -49,7 +49,7 @@ undoes-inverse = undoes cubeRoot (cubeRoot ⊕ 1) tt
 
 -- the sum of a column after the rule
 column-sum : (s x y z : ℕ) → (x ⊕ s) ⊕ ((y ⊕ s) ⊕ (z ⊕ s)) ≡ (x ⊕ (y ⊕ z)) ⊕ s
-column-sum s x y z = simp (assoc, left-comm, comm, cancel, self, zero-right)
+column-sum s x y z = simp (assoc, left-comm, comm, cancel)
 
 spreadByte-undone : (m w : ℕ) → Undoes w m → (x a b d : ℕ) → a ⊕ (b ⊕ d) < 256
     → spreadByte w (spreadByte m x a b d) (spreadByte m a a b d) (spreadByte m b a b d) (spreadByte m d a b d) ≡ x

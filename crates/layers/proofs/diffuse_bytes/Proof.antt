@@ -1,5 +1,5 @@
 use borrow.Author.Needs.{needs}
-use Prim.Native.Nat.{ℕ, _<_}
+use Prim.Native.Nat.{_<_}
 use lib.Dec.{lit<}
 use Rattle.layers.proofs.Columns.{made-is}
 use Rattle.layers.proofs.diffuse_bytes.Statement.{statement}

@@ -1,5 +1,4 @@
 use native.Mathlib.Omega.{arith}
-use Rattle.sbox.specs.Sbox.{Nibble}
 use Rattle.sbox.proofs.Laws.{lows-is}
 use Rattle.sbox.proofs.join_lows.Statement.{statement}
 use Rattle.sbox.proofs.join_lows.Tie as tie

@@ -1,5 +1,4 @@
 use native.Mathlib.Omega.{arith}
-use Rattle.sbox.specs.Sbox.{Nibble}
 use Rattle.sbox.proofs.Laws.{tops-is}
 use Rattle.sbox.proofs.join_tops.Statement.{statement}
 use Rattle.sbox.proofs.join_tops.Tie as tie

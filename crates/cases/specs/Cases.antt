@@ -1,0 +1,58 @@
+-- The worked cases of document 01, "Thirteen proved cases", as one list, in its order, and the claim over the list. What is given is
+-- computed from the definitions that the contracts cite; what is expected is document 01's. Cases 12 and 13 join with the key stages
+-- and the grant.
+use mathlib.Core.Path.{_≡_}
+use mathlib.Core.List.{List, [], _∷_, _++_}
+use Prim.Native.Nat.{ℕ}
+use lib.ListN.{getD, replicate}
+use Rattle.field.specs.Field.{_⊕_, times, cubeRoot}
+use Rattle.sbox.specs.Sbox.{sbox}
+use Rattle.layers.specs.State.{State}
+use Rattle.layers.specs.Layers.{permuted, diffused}
+use Rattle.schedule.specs.Columns.{spread}
+
+pub record Case : Type 0 where
+  pub given : List ℕ
+  pub expected : List ℕ
+
+infix 20 _is_
+abbrev pub _is_ : List ℕ → List ℕ → Case
+_is_ a b = record { given = a; expected = b }
+
+-- the bytes of a state, column after column
+abbrev pub bytes : State → List ℕ
+bytes [] = []
+bytes (c ∷ cs) = c ++ bytes cs
+
+-- the diffusion of the column x y z: a column of the diffusion of a state of four such columns
+abbrev pub diffusionOf : ℕ → ℕ → ℕ → List ℕ
+diffusionOf x y z = getD (diffused (replicate 4 (x ∷ y ∷ z ∷ []))) 0 []
+
+-- the state of bytes 00 to 0B
+abbrev pub counting : State
+counting = (0x00 ∷ 0x01 ∷ 0x02 ∷ []) ∷ (0x03 ∷ 0x04 ∷ 0x05 ∷ []) ∷ (0x06 ∷ 0x07 ∷ 0x08 ∷ []) ∷ (0x09 ∷ 0x0A ∷ 0x0B ∷ []) ∷ []
+
+unfoldable pub cases : List Case
+cases =
+    ((sbox 0x00 ∷ []) is (0xBA ∷ []))
+    ∷ ((sbox 0x01 ∷ []) is (0x54 ∷ []))
+    ∷ ((sbox 0xBA ∷ []) is (0x00 ∷ []))
+    ∷ ((times 0x02 0x80 ∷ []) is (0x4D ∷ []))
+    ∷ ((times cubeRoot 0x01 ∷ []) is (0x1C ∷ []))
+    ∷ ((times cubeRoot 0x1C ∷ []) is (0x1D ∷ []))
+    ∷ (diffusionOf 0x01 0x00 0x00 is (0x03 ∷ 0x04 ∷ 0x06 ∷ []))
+    ∷ (diffusionOf 0x03 0x04 0x06 is (0x01 ∷ 0x00 ∷ 0x00 ∷ []))
+    ∷ (spread cubeRoot 1 (0x01 ∷ 0x00 ∷ 0x00 ∷ []) is (0x1D ∷ 0x1C ∷ 0x1C ∷ []))
+    ∷ (spread (cubeRoot ⊕ 0x01) 1 (0x1D ∷ 0x1C ∷ 0x1C ∷ []) is (0x01 ∷ 0x00 ∷ 0x00 ∷ []))
+    ∷ (bytes (permuted counting)
+    is (0x00 ∷ 0x04 ∷ 0x08 ∷ 0x03 ∷ 0x01 ∷ 0x0B ∷ 0x06 ∷ 0x0A ∷ 0x02 ∷ 0x09 ∷ 0x07 ∷ 0x05 ∷ []))
+    ∷ []
+
+-- what is given is what is expected, in every case of a list
+abbrev pub Hold : List Case → Type 0
+Hold [] = Unit {0}
+Hold (c ∷ cs) = (c .given ≡ c .expected) × Hold cs
+
+-- the claim. The term of this type stands in proofs/Cases.antt
+unfoldable pub CasesHold : Type 0
+CasesHold = Hold cases

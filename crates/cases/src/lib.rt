@@ -1,0 +1,1 @@
+// No code: the worked cases of document 01, proved from the definitions in specs/ and proofs/.
