@@ -4,12 +4,12 @@
 use mathlib.Core.Path.{_≡_}
 use mathlib.Core.List.{List, [], _∷_, _++_}
 use Prim.Native.Nat.{ℕ}
-use lib.ListN.{getD, replicate}
+use lib.ListN.{getD}
 use Rattle.field.specs.Field.{_⊕_, times, cubeRoot}
 use Rattle.sbox.specs.Sbox.{sbox}
 use Rattle.layers.specs.State.{State}
 use Rattle.layers.specs.Layers.{permuted, diffused}
-use Rattle.schedule.specs.Columns.{spread}
+use Rattle.schedule.specs.Columns.{columnRule}
 
 pub record Case : Type 0 where
   pub given : List ℕ
@@ -24,9 +24,9 @@ abbrev pub bytes : State → List ℕ
 bytes [] = []
 bytes (c ∷ cs) = c ++ bytes cs
 
--- the diffusion of the column x y z: a column of the diffusion of a state of four such columns
+-- the diffusion of the column x y z: column 0 of the diffusion of a state that has it there, and other columns elsewhere
 abbrev pub diffusionOf : ℕ → ℕ → ℕ → List ℕ
-diffusionOf x y z = getD (diffused (replicate 4 (x ∷ y ∷ z ∷ []))) 0 []
+diffusionOf x y z = getD (diffused ((x ∷ y ∷ z ∷ []) ∷ (0x11 ∷ 0x22 ∷ 0x33 ∷ []) ∷ (0x44 ∷ 0x55 ∷ 0x66 ∷ []) ∷ (0x77 ∷ 0x88 ∷ 0x99 ∷ []) ∷ [])) 0 []
 
 -- the state of bytes 00 to 0B
 abbrev pub counting : State
@@ -42,8 +42,8 @@ cases =
     ∷ ((times cubeRoot 0x1C ∷ []) is (0x1D ∷ []))
     ∷ (diffusionOf 0x01 0x00 0x00 is (0x03 ∷ 0x04 ∷ 0x06 ∷ []))
     ∷ (diffusionOf 0x03 0x04 0x06 is (0x01 ∷ 0x00 ∷ 0x00 ∷ []))
-    ∷ (spread cubeRoot 1 (0x01 ∷ 0x00 ∷ 0x00 ∷ []) is (0x1D ∷ 0x1C ∷ 0x1C ∷ []))
-    ∷ (spread (cubeRoot ⊕ 0x01) 1 (0x1D ∷ 0x1C ∷ 0x1C ∷ []) is (0x01 ∷ 0x00 ∷ 0x00 ∷ []))
+    ∷ (columnRule cubeRoot 1 (0x01 ∷ 0x00 ∷ 0x00 ∷ []) is (0x1D ∷ 0x1C ∷ 0x1C ∷ []))
+    ∷ (columnRule (cubeRoot ⊕ 0x01) 1 (0x1D ∷ 0x1C ∷ 0x1C ∷ []) is (0x01 ∷ 0x00 ∷ 0x00 ∷ []))
     ∷ (bytes (permuted counting)
     is (0x00 ∷ 0x04 ∷ 0x08 ∷ 0x03 ∷ 0x01 ∷ 0x0B ∷ 0x06 ∷ 0x0A ∷ 0x02 ∷ 0x09 ∷ 0x07 ∷ 0x05 ∷ []))
     ∷ []

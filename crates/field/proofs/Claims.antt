@@ -9,11 +9,11 @@ use Rattle.field.proofs.Addition.{digit-cases, bit, assoc, comm, left-c
 use Rattle.field.proofs.Linear.{product-right, times-left, times-right}
 use Rattle.field.proofs.Multiplication.{times-comm, times-assoc, one-times, times-byte}
 
-pub addition : AdditionLaws
-addition = record { associative = assoc; commutative = comm; zero-neutral = zero-right; self-inverse = self; stays-a-byte = byte }
+pub addition-laws : AdditionLaws
+addition-laws = record { associative = assoc; commutative = comm; zero-neutral = zero-right; self-inverse = self; stays-a-byte = byte }
 
-pub multiplication : MultiplicationLaws
-multiplication = record {
+pub multiplication-laws : MultiplicationLaws
+multiplication-laws = record {
   distributes-right = times-right;
   distributes-left = times-left;
   commutative = times-comm;
@@ -22,9 +22,9 @@ multiplication = record {
   stays-a-byte = times-byte;
 }
 
-pub cube-root : CubeRootLaws
+pub cube-root-laws : CubeRootLaws
 unfolding times product reduced
-cube-root = record { square = refl; inverse = refl }
+cube-root-laws = record { square = refl; inverse = refl }
 
 -- ---- the remainder
 
@@ -69,4 +69,4 @@ remainder (suc n) a =
 
 pub times-is-remainder : TimesIsRemainder
 unfolding TimesIsRemainder times
-times-is-remainder a b = remainder _ (product 8 a b)
+times-is-remainder a b ha hb = let r = remainder _ (product 8 a b) in record { quotient = r .0; divides = r .1; small = times-byte a b ha hb }

@@ -20,9 +20,15 @@ pub record MultiplicationLaws : Type 0 where
   pub one-neutral : (x : ℕ) → x < 256 → times 1 x ≡ x
   pub stays-a-byte : (a b : ℕ) → a < 256 → b < 256 → times a b < 256
 
--- multiplication is the product of polynomials up to a multiple q of the modulus
+-- multiplication of bytes is the remainder of their product by the modulus: the product is q times the modulus plus a polynomial of
+-- degree below 8
+pub record Remainder (a b : ℕ) : Type 0 where
+  pub quotient : ℕ
+  pub divides : product 8 a b ≡ product 9 modulus quotient ⊕ times a b
+  pub small : times a b < 256
+
 unfoldable pub TimesIsRemainder : Type 0
-TimesIsRemainder = (a b : ℕ) → (q : ℕ) × (product 8 a b ≡ product 9 modulus q ⊕ times a b)
+TimesIsRemainder = (a b : ℕ) → a < 256 → b < 256 → Remainder a b
 
 -- the constant c: its square is c + 1, so c + 1 is its inverse
 pub record CubeRootLaws : Type 0 where

@@ -26,7 +26,7 @@ unfoldable pub reduced : ℕ → ℕ → ℕ
 reduced zero a = a
 reduced (suc n) a = reduced n (a ⊕ (coefficient a (8 + n) * (modulus * 2 ^ n)))
 
--- multiplication of two bytes: their product has a degree below 15
+-- multiplication of two bytes, whose product has a degree below 15. On larger numbers it is defined but is no multiplication
 unfoldable pub times : ℕ → ℕ → ℕ
 times a b = reduced 7 (product 8 a b)
 

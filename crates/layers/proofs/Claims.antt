@@ -1,6 +1,6 @@
 -- A term of each type of specs/Claims.antt.
-use Rattle.layers.specs.Claims.{SubstitutionUndoesItself, PermutationUndoesItself, DiffusionUndoesItself, KeyAdditionUndoesItself, PermutationIsLinear, DiffusionIsLinear, SubstitutionCommutesWithPermutation, LayersGiveStates}
-use Rattle.layers.proofs.Layers.{permuted-permuted, substituted-substituted, substituted-permuted, added-added, diffused-diffused, permuted-added, diffused-added, substituted-state, permuted-state, diffused-state, added-state}
+use Rattle.layers.specs.Claims.{SubstitutionUndoesItself, PermutationUndoesItself, DiffusionUndoesItself, KeyAdditionUndoesItself, PermutationIsLinear, DiffusionIsLinear, SubstitutionCommutesWithPermutation, LayersGiveStates, ArraysAreStates}
+use Rattle.layers.proofs.Layers.{permuted-permuted, substituted-substituted, substituted-permuted, added-added, diffused-diffused, permuted-added, diffused-added, substituted-state, permuted-state, diffused-state, added-state, array-state}
 
 pub substitution-undoes-itself : SubstitutionUndoesItself
 unfolding SubstitutionUndoesItself
@@ -37,3 +37,7 @@ layers-give-states = record {
   of-diffusion = λ a h. diffused-state h;
   of-key-addition = λ k a hk ha. added-state ha hk;
 }
+
+pub arrays-are-states : ArraysAreStates
+unfolding ArraysAreStates
+arrays-are-states = array-state

@@ -1,7 +1,10 @@
 -- The layers' laws on states.
-use mathlib.Core.Path.{_≡_, refl, ap, _∙_}
+use mathlib.Core.Path.{_≡_, refl, sym, ap, _∙_, subst}
 use mathlib.Core.List.{List, [], _∷_}
-use Prim.Native.Nat.{ℕ, _<_}
+use Prim.Native.Nat.{ℕ, zero, suc, _<_}
+use native.Mathlib.Omega.{arith}
+use lib.ListN.{getD, length}
+use lib.Seq.{ext-getD}
 use lib.Dec.{lit<}
 use lib.Bits.{bitXor}
 use Rattle.field.specs.Field.{_⊕_}
@@ -59,3 +62,26 @@ added-state (built f h) (built g l) = built (λ i j. f i j ⊕ g i j) (λ i j. b
 
 pub diffused-state : {a : State} → IsState a → IsState (diffused a)
 diffused-state (built f h) = built (λ i j. rowTimes i (f 0 j) (f 1 j) (f 2 j)) (λ i j. rowTimes-byte i (f 0 j) (f 1 j) (f 2 j) (h 0 j) (h 1 j) (h 2 j))
+
+-- ---- lists of the right lengths
+column-of : (c : List ℕ) → length c ≡ 3 → c ≡ getD c 0 0 ∷ getD c 1 0 ∷ getD c 2 0 ∷ []
+column-of c e = ext-getD 0 c (getD c 0 0 ∷ getD c 1 0 ∷ getD c 2 0 ∷ []) e (λ i h. at-row i (omega arith))
+  where
+    at-row : (i : ℕ) → i < 3 → getD c i 0 ≡ getD (getD c 0 0 ∷ getD c 1 0 ∷ getD c 2 0 ∷ []) i 0
+    at-row zero h = refl
+    at-row (suc zero) h = refl
+    at-row (suc (suc zero)) h = refl
+    at-row (suc (suc (suc i))) h = let z : ⊥ = omega arith in absurd z
+
+state-of : (a : State) → length a ≡ 4 → ((j : ℕ) → j < 4 → length (getD a j []) ≡ 3) → a ≡ build (at a)
+state-of a e h = ext-getD [] a (build (at a)) e (λ j l. at-column j (omega arith))
+  where
+    at-column : (j : ℕ) → j < 4 → getD a j [] ≡ getD (build (at a)) j []
+    at-column zero l = column-of (getD a 0 []) (h 0 l)
+    at-column (suc zero) l = column-of (getD a 1 []) (h 1 l)
+    at-column (suc (suc zero)) l = column-of (getD a 2 []) (h 2 l)
+    at-column (suc (suc (suc zero))) l = column-of (getD a 3 []) (h 3 l)
+    at-column (suc (suc (suc (suc j)))) l = let z : ⊥ = omega arith in absurd z
+
+pub array-state : (a : State) → length a ≡ 4 → ((j : ℕ) → j < 4 → length (getD a j []) ≡ 3) → ((i j : ℕ) → at a i j < 256) → IsState a
+array-state a e h b = subst IsState (sym (state-of a e h)) (built (at a) b)

@@ -1,6 +1,9 @@
 -- What is claimed of the layers. A term of each type stands in proofs/Claims.antt.
 use mathlib.Core.Path.{_≡_}
-use Rattle.layers.specs.State.{State, IsState}
+use mathlib.Core.List.{[]}
+use Prim.Native.Nat.{ℕ, _<_}
+use lib.ListN.{length, getD}
+use Rattle.layers.specs.State.{State, at, IsState}
 use Rattle.layers.specs.Layers.{substituted, permuted, diffused, added}
 
 -- each layer is its own inverse
@@ -16,7 +19,7 @@ DiffusionUndoesItself = (a : State) → IsState a → diffused (diffused a) ≡ 
 unfoldable pub KeyAdditionUndoesItself : Type 0
 KeyAdditionUndoesItself = (k a : State) → IsState k → IsState a → added k (added k a) ≡ a
 
--- permutation and diffusion are linear
+-- permutation and diffusion keep sums: they are linear over two elements
 unfoldable pub PermutationIsLinear : Type 0
 PermutationIsLinear = (k a : State) → permuted (added k a) ≡ added (permuted k) (permuted a)
 
@@ -33,3 +36,7 @@ pub record LayersGiveStates : Type 0 where
   pub of-permutation : (a : State) → IsState a → IsState (permuted a)
   pub of-diffusion : (a : State) → IsState a → IsState (diffused a)
   pub of-key-addition : (k a : State) → IsState k → IsState a → IsState (added k a)
+
+-- every list of four lists of three bytes is a state
+unfoldable pub ArraysAreStates : Type 0
+ArraysAreStates = (a : State) → length a ≡ 4 → ((j : ℕ) → j < 4 → length (getD a j []) ≡ 3) → ((i j : ℕ) → at a i j < 256) → IsState a

@@ -19,6 +19,6 @@ column f = f 0 ∷ f 1 ∷ f 2 ∷ []
 abbrev pub build : (ℕ → ℕ → ℕ) → State
 build f = column (λ i. f i 0) ∷ column (λ i. f i 1) ∷ column (λ i. f i 2) ∷ column (λ i. f i 3) ∷ []
 
--- four columns of three bytes: a state built of bytes
+-- a list is a state if it is `build f` for some f whose values are bytes (only rows below 3 and columns below 4 matter)
 pub data IsState : State → Type 0 where
   built : (f : ℕ → ℕ → ℕ) → ((i j : ℕ) → f i j < 256) → IsState (build f)

@@ -7,7 +7,7 @@ use lib.ListN.{length}
 use Rattle.layers.specs.State.{State, IsState}
 use Rattle.layers.specs.Layers.{substituted, permuted, diffused, added}
 use Rattle.layers.proofs.Layers.{permuted-permuted, substituted-substituted, substituted-permuted, added-added, diffused-diffused, diffused-added, substituted-state, permuted-state, added-state, diffused-state}
-use Rattle.rounds.specs.Rounds.{round, lastRound, rounds, ciphered, turned, AllStates}
+use Rattle.rounds.specs.Rounds.{round, lastRound, rounds, enciphered, turned, AllStates}
 use Rattle.rounds.proofs.Turned.{turned-ends}
 
 -- ---- what a round does before its diffusion undoes itself
@@ -92,10 +92,10 @@ states-front [] k h = (tt, h .0)
 states-front (x ∷ ks) k h = let r = states-front ks k (h .1) in ((h .0, r .0), r .1)
 
 restored-ends : (k : State) (ks : List State) (l a : State) → IsState k → AllStates ks → IsState l → IsState a
-    → ciphered (turned (k ∷ (ks ++ (l ∷ [])))) (ciphered (k ∷ (ks ++ (l ∷ []))) a) ≡ a
-unfolding ciphered
+    → enciphered (turned (k ∷ (ks ++ (l ∷ [])))) (enciphered (k ∷ (ks ++ (l ∷ []))) a) ≡ a
+unfolding enciphered
 restored-ends k ks l a hk hs hl ha =
-    ap₂ ciphered (turned-ends k ks l) (rounds-snoc ks l (added k a) ∙ last-mixed l (middle ks (added k a)))
+    ap₂ enciphered (turned-ends k ks l) (rounds-snoc ks l (added k a) ∙ last-mixed l (middle ks (added k a)))
     ∙ rounds-snoc (map diffused (reverse ks)) k (added l (added l (mixed (middle ks (added k a)))))
     ∙ last-mixed k (middle (map diffused (reverse ks)) (added l (added l (mixed (middle ks (added k a))))))
     ∙ ap (λ (x : State). added k (mixed (middle (map diffused (reverse ks)) x))) (added-added (mixed-state (middle-state ks hs hb)) hl)
@@ -107,13 +107,13 @@ restored-ends k ks l a hk hs hl ha =
     hb = added-state ha hk
 
 -- the turned list gives the block back
-pub restored : (ks : List State) (a : State) → 2 ≤ length ks → AllStates ks → IsState a → ciphered (turned ks) (ciphered ks a) ≡ a
+pub restored : (ks : List State) (a : State) → 2 ≤ length ks → AllStates ks → IsState a → enciphered (turned ks) (enciphered ks a) ≡ a
 restored [] a n h b = absurd (not-suc-le-zero n)
 restored (k ∷ []) a n h b = absurd (not-suc-le-zero (le-of-suc-le-suc n))
 restored (k ∷ x ∷ ks) a n h b =
     let r = last x ks in
     let parts = states-front (r .0) (r .1) (subst AllStates (r .2) (h .1)) in
-    subst (λ (l : List State). ciphered (turned (k ∷ l)) (ciphered (k ∷ l) a) ≡ a) (sym (r .2))
+    subst (λ (l : List State). enciphered (turned (k ∷ l)) (enciphered (k ∷ l) a) ≡ a) (sym (r .2))
     (restored-ends k (r .0) (r .1) a (h .0) (parts .0) (parts .1) b)
 
 -- ---- the rounds make a state of a state
@@ -123,7 +123,7 @@ rounds-state [] a h b = b
 rounds-state (k ∷ []) a h b = last-state (h .0) b
 rounds-state (k ∷ x ∷ ks) a h b = rounds-state (x ∷ ks) (round k a) (h .1) (round-state (h .0) b)
 
-pub ciphered-state : (ks : List State) (a : State) → AllStates ks → IsState a → IsState (ciphered ks a)
-unfolding ciphered
-ciphered-state [] a h b = b
-ciphered-state (k ∷ ks) a h b = rounds-state ks (added k a) (h .1) (added-state b (h .0))
+pub enciphered-state : (ks : List State) (a : State) → AllStates ks → IsState a → IsState (enciphered ks a)
+unfolding enciphered
+enciphered-state [] a h b = b
+enciphered-state (k ∷ ks) a h b = rounds-state ks (added k a) (h .1) (added-state b (h .0))

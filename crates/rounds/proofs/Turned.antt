@@ -1,5 +1,5 @@
 -- The turned list, place by place and by its ends.
-use mathlib.Core.Path.{_≡_, refl, sym, ap, ap₂, _∙_}
+use mathlib.Core.Path.{_≡_, refl, sym, ap, ap₂, _∙_, subst}
 use mathlib.Core.Logic.{inl, inr}
 use mathlib.Core.Bool.{Bool, true, false, cond, _||_, or-true}
 use mathlib.Core.List.{List, [], _∷_, _++_, map, reverse, reverse-cons}
@@ -12,7 +12,7 @@ use lib.Seq.{ext-getD, getD-at}
 use borrow.Author.Tests.{eq-eqb, ne-eqb}
 use Rattle.layers.specs.State.{State, IsState}
 use Rattle.layers.specs.Layers.{diffused}
-use Rattle.layers.proofs.Layers.{diffused-diffused}
+use Rattle.layers.proofs.Layers.{diffused-diffused, diffused-state}
 use Rattle.rounds.specs.Rounds.{listedFrom, turnedAt, turned, AllStates}
 
 -- ---- lists by their elements
@@ -157,3 +157,26 @@ pub turned-turned : (ks : List State) → AllStates ks → turned (turned ks) �
 unfolding turned listedFrom
 turned-turned [] a = refl
 turned-turned (k ∷ ks) a = turned-twice-some (k ∷ ks) (length ks) refl a
+
+-- ---- the turned list has states for states
+states-from : (ks : List State) → ((r : ℕ) → r < length ks → IsState (getD ks r [])) → AllStates ks
+states-from [] h = tt
+states-from (k ∷ ks) h = (h 0 (omega arith), states-from ks (λ r l. h (suc r) (omega arith)))
+
+module _ (ks : List State) (R : ℕ) (e : length ks ≡ suc R) (a : AllStates ks) where
+  state-turned : (r : ℕ) → r ≤ R → IsState (getD (turned ks) r [])
+  state-turned zero h = subst IsState (sym (turned-first ks R e)) (state-at ks R a (omega arith))
+  state-turned (suc m) h = elim (eq-or-lt-of-le h) [
+    | inl l ↦
+        subst IsState (sym (ap (λ (n : ℕ). getD (turned ks) n []) l ∙ turned-last ks R e)) (state-at ks 0 a (omega arith))
+    | inr u ↦
+        subst IsState (sym (turned-inner ks R e (suc m) (omega arith) u)) (diffused-state (state-at ks (R - suc m) a (omega arith)))
+  ]
+
+  states-turned : AllStates (turned ks)
+  states-turned = let l = turned-length ks R e in states-from (turned ks) (λ r h. state-turned r (omega arith))
+
+pub turned-states : (ks : List State) → AllStates ks → (length (turned ks) ≡ length ks) × AllStates (turned ks)
+unfolding turned listedFrom
+turned-states [] a = (refl, tt)
+turned-states (k ∷ ks) a = (turned-length (k ∷ ks) (length ks) refl, states-turned (k ∷ ks) (length ks) refl a)

@@ -4,12 +4,20 @@ use mathlib.Core.List.{List}
 use Prim.Native.Nat.{_≤_}
 use lib.ListN.{length}
 use Rattle.layers.specs.State.{State, IsState}
-use Rattle.rounds.specs.Rounds.{ciphered, turned, AllStates}
+use Rattle.rounds.specs.Rounds.{enciphered, turned, AllStates}
 
--- Demand 3, its last sentence, and paper 000, Theorem 1: for every list of two or more subkeys and every block, the rounds run again
--- on their result under the turned list restore the block. A list of 11 to 24 subkeys is a case of it.
+-- Demand 3, its last sentence: for every list of two or more subkeys and every block, the rounds run again on their result under the
+-- turned list restore the block. A list of 11 to 24 subkeys is a case of it. A list of fewer than two has no rounds.
 unfoldable pub RestoresBlock : Type 0
-RestoresBlock = (ks : List State) (a : State) → 2 ≤ length ks → AllStates ks → IsState a → ciphered (turned ks) (ciphered ks a) ≡ a
+RestoresBlock = (ks : List State) (a : State) → 2 ≤ length ks → AllStates ks → IsState a → enciphered (turned ks) (enciphered ks a) ≡ a
+
+-- and the other way round: paper 000, Theorem 1, says that the one is the inverse of the other
+unfoldable pub RestoredByList : Type 0
+RestoredByList = (ks : List State) (a : State) → 2 ≤ length ks → AllStates ks → IsState a → enciphered ks (enciphered (turned ks) a) ≡ a
+
+-- the turned list is as long as the list, and has states for states
+unfoldable pub TurnedGivesStates : Type 0
+TurnedGivesStates = (ks : List State) → AllStates ks → (length (turned ks) ≡ length ks) × AllStates (turned ks)
 
 -- a list turned twice is the list
 unfoldable pub TurnedTwice : Type 0
@@ -17,4 +25,4 @@ TurnedTwice = (ks : List State) → AllStates ks → turned (turned ks) ≡ ks
 
 -- the rounds make a state of a state
 unfoldable pub RoundsGiveStates : Type 0
-RoundsGiveStates = (ks : List State) (a : State) → AllStates ks → IsState a → IsState (ciphered ks a)
+RoundsGiveStates = (ks : List State) (a : State) → AllStates ks → IsState a → IsState (enciphered ks a)

@@ -16,24 +16,24 @@ round k a = added k (diffused (permuted (substituted a)))
 unfoldable pub lastRound : State → State → State
 lastRound k a = added k (permuted (substituted a))
 
--- the rounds under subkeys 1 to R
+-- the rounds under subkeys 1 to R. The paper has R of 1 or more; no subkey is no round, by convention
 unfoldable pub rounds : List State → State → State
 rounds [] a = a
 rounds (k ∷ []) a = lastRound k a
 rounds (k ∷ k′ ∷ ks) a = rounds (k′ ∷ ks) (round k a)
 
 -- the whole enciphering: add subkey 0, then the rounds
-unfoldable pub ciphered : List State → State → State
-ciphered [] a = a
-ciphered (k ∷ ks) a = rounds ks (added k a)
+unfoldable pub enciphered : List State → State → State
+enciphered [] a = a
+enciphered (k ∷ ks) a = rounds ks (added k a)
 
 -- the list of f r for the n numbers from r on
 unfoldable pub listedFrom : {A : Type 0} → ℕ → ℕ → (ℕ → A) → List A
 listedFrom r zero f = []
 listedFrom r (suc n) f = f r ∷ listedFrom (suc r) n f
 
--- the subkey at r of a list whose last is at R, turned: first and last change places; between them, it is the diffusion of the
--- one at R - r
+-- subkey r of the turned list, where R is the last index: first and last change places, and for r between them it is the diffusion of
+-- subkey R - r
 abbrev pub turnedAt : List State → ℕ → ℕ → State
 turnedAt ks R r = cond (eqb r 0 || eqb r R) (getD ks (R - r) []) (diffused (getD ks (R - r) []))
 

@@ -2,9 +2,12 @@
 use mathlib.Core.Path.{_≡_}
 use mathlib.Core.Bool.{Bool, _&&_}
 use Prim.Native.Nat.{ℕ, _*_, _/_, _%_, _<_}
+use native.Mathlib.Omega.{arith}
 use lib.Dec.{T, eqb, eqb→eq, ltb, ltb→lt, lit<}
 use lib.Bits.{bitAnd, bitOr}
 use Rattle.field.proofs.Computed.{and-left, and-right, all, passed, entry-below}
+use lib.ListN.{getD}
+use Rattle.sbox.specs.Published.{published}
 use Rattle.sbox.specs.Sbox.{tableP, tableQ, miniP, miniQ, joinTops, joinLows, joinHalves, sbox}
 
 -- ---- the tables' entries have four bits
@@ -31,6 +34,21 @@ sbox-sbox x h = eqb→eq _ _ (and-left (eqb (sbox (sbox x)) x) (ltb (sbox x) 256
 pub sbox-byte : (x : ℕ) → x < 256 → sbox x < 256
 unfolding right
 sbox-byte x h = ltb→lt _ _ (and-right (eqb (sbox (sbox x)) x) (ltb (sbox x) 256) (passed 256 right test x h))
+
+-- for any number
+pub sbox-small : (x : ℕ) → sbox x < 256
+unfolding sbox
+sbox-small x =
+    let h₁ = miniP (x / 16) in
+    let l₁ = miniQ (x % 16) in
+    let h₂ = miniQ (joinTops h₁ l₁) in
+    let l₂ = miniP (joinLows h₁ l₁) in
+    omega (arith, p-small (joinTops h₂ l₂), q-small (joinLows h₂ l₂))
+
+-- ---- the published table, by one computed test over its entries
+pub is-published : (x : ℕ) → x < 256 → sbox x ≡ getD published x 0
+unfolding sbox tableP tableQ published
+is-published x h = eqb→eq (sbox x) (getD published x 0) (passed 256 (λ x. eqb (sbox x) (getD published x 0)) tt x h)
 
 -- ---- two functions of the halves of a byte that agree at all halves
 module _ (f g : ℕ → ℕ → ℕ) where

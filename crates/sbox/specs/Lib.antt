@@ -1,2 +1,3 @@
 pub mod Sbox
+pub mod Published
 pub mod Claims

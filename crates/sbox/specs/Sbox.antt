@@ -41,6 +41,6 @@ sbox x =
     joinHalves h₃ l₃
 
 -- what the code knows of a 4-bit number r that it computed: it is n, and below 16
-pub record Nibble (r n : ℕ) : Type 0 where
+pub record IsNibble (r n : ℕ) : Type 0 where
   pub is : r ≡ n
   pub small : r < 16

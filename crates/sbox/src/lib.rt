@@ -2,7 +2,7 @@
 
 ghost use mathlib.Core.Path.{_≡_};
 ghost use Prim.Native.Nat.{_%_, _<_};
-ghost use Rattle.sbox.specs.Sbox.{miniP, miniQ, joinTops, joinLows, joinHalves, sbox, Nibble};
+ghost use Rattle.sbox.specs.Sbox.{miniP, miniQ, joinTops, joinLows, joinHalves, sbox, IsNibble};
 
 // The mini-boxes.
 const P: [u8; 16] = [3, 15, 14, 0, 5, 4, 11, 12, 13, 10, 9, 6, 7, 8, 2, 1];
@@ -11,14 +11,14 @@ const Q: [u8; 16] = [9, 14, 5, 6, 10, 2, 3, 12, 15, 0, 4, 13, 7, 11, 1, 8];
 
 fn mini_p(x: u8) -> u8
     requires { ⌜ x < 16 ⌝ }
-    ensures { λ r. ⌜ Nibble r (miniP x) ⌝ }
+    ensures { λ r. ⌜ IsNibble r (miniP x) ⌝ }
 {
     P[x as usize]
 }
 
 fn mini_q(x: u8) -> u8
     requires { ⌜ x < 16 ⌝ }
-    ensures { λ r. ⌜ Nibble r (miniQ x) ⌝ }
+    ensures { λ r. ⌜ IsNibble r (miniQ x) ⌝ }
 {
     Q[x as usize]
 }
@@ -26,7 +26,7 @@ fn mini_q(x: u8) -> u8
 // The top two bits of h joined to the top two of l.
 fn join_tops(h: u8, l: u8) -> u8
     requires { ⌜ (h < 16) × (l < 16) ⌝ }
-    ensures { λ r. ⌜ Nibble r (joinTops h l) ⌝ }
+    ensures { λ r. ⌜ IsNibble r (joinTops h l) ⌝ }
 {
     (h & 12) | (l >> 2)
 }
@@ -34,7 +34,7 @@ fn join_tops(h: u8, l: u8) -> u8
 // The low two bits of h joined to the low two of l.
 fn join_lows(h: u8, l: u8) -> u8
     requires { ⌜ (h < 16) × (l < 16) ⌝ }
-    ensures { λ r. ⌜ Nibble r (joinLows h l) ⌝ }
+    ensures { λ r. ⌜ IsNibble r (joinLows h l) ⌝ }
 {
     ((h & 3) << 2) | (l & 3)
 }
@@ -48,7 +48,7 @@ fn join_halves(h: u8, l: u8) -> u8
 }
 
 fn low_half(x: u8) -> u8
-    ensures { λ r. ⌜ Nibble r (x % 16) ⌝ }
+    ensures { λ r. ⌜ IsNibble r (x % 16) ⌝ }
 {
     x & 15
 }

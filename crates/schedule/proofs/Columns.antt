@@ -1,12 +1,13 @@
 -- The laws of columns: a stage is read back by its cells, and two that agree at every cell are equal.
-use mathlib.Core.Path.{_≡_, refl, sym, ap, _∙_}
-use mathlib.Core.List.{_∷_}
-use Prim.Native.Nat.{ℕ, zero, suc, _+_, _*_, _≤_, _<_}
+use mathlib.Core.Path.{_≡_, refl, sym, ap, _∙_, subst}
+use mathlib.Core.List.{List, [], _∷_, _++_}
+use Prim.Native.Nat.{ℕ, zero, suc, _+_, _*_, _/_, _%_, _≤_, _<_}
 use native.Mathlib.Nat.{not-suc-le-zero, add-zero, zero-add}
 use native.Mathlib.Omega.{arith}
-use lib.ListN.{getD}
+use lib.ListN.{getD, length}
+use lib.Seq.{ext-getD}
 use lib.Dec.{lit<}
-use Rattle.schedule.specs.Columns.{cell, columns, fill}
+use Rattle.schedule.specs.Columns.{cell, columns, fill, IsStage, filled}
 
 row-cases {ℓ} : (P : ℕ → Type ℓ) → P 0 → P 1 → P 2 → (i : ℕ) → i < 3 → P i
 row-cases P a b c zero h = a
@@ -43,3 +44,30 @@ module _ {A : Type 0} where
 
 pub cell-fill : (n : ℕ) (f : ℕ → ℕ → ℕ) (i j : ℕ) → i < 3 → j < n → cell (fill n f) i j ≡ f i j
 cell-fill = getD-fill 0
+
+-- ---- lists of columns, from the other end
+pub length-columns : {A : Type 0} (f : ℕ → ℕ → A) (j n : ℕ) → length (columns j n f) ≡ 3 * n
+unfolding columns
+length-columns f j zero = refl
+length-columns f j (suc n) = let h = length-columns f (suc j) n in omega arith
+
+pub columns-last : {A : Type 0} (f : ℕ → ℕ → A) (j n : ℕ) → columns j (suc n) f ≡ columns j n f ++ (f 0 (j + n) ∷ f 1 (j + n) ∷ f 2 (j + n) ∷ [])
+unfolding columns
+columns-last f j zero = ap (λ (m : ℕ). f 0 m ∷ f 1 m ∷ f 2 m ∷ []) (sym (add-zero j))
+columns-last {A} f j (suc n) =
+    ap {B = List A} (λ l. f 0 j ∷ f 1 j ∷ f 2 j ∷ l) (columns-last f (suc j) n ∙ ap (λ (m : ℕ). columns (suc j) n f ++ (f 0 m ∷ f 1 m ∷ f 2 m ∷ [])) (omega arith))
+
+pub fill-last : {A : Type 0} (f : ℕ → ℕ → A) (n : ℕ) → fill (suc n) f ≡ fill n f ++ (f 0 n ∷ f 1 n ∷ f 2 n ∷ [])
+fill-last f n = columns-last f 0 n ∙ ap (λ (m : ℕ). fill n f ++ (f 0 m ∷ f 1 m ∷ f 2 m ∷ [])) (zero-add n)
+
+-- a list of 3 n bytes is filled by its own cells
+pub refill : (n : ℕ) (k : List ℕ) → length k ≡ 3 * n → fill n (cell k) ≡ k
+refill n k e = ext-getD 0 (fill n (cell k)) k (length-columns (cell k) 0 n ∙ sym e)
+    (λ p h.
+    let z : p % 3 + 3 * (p / 3) ≡ p = omega arith in
+    ap (λ (x : ℕ). getD (fill n (cell k)) x 0) (sym z)
+    ∙ getD-fill 0 n (cell k) (p % 3) (p / 3) (omega arith) (omega (arith, length-columns (cell k) 0 n))
+    ∙ ap (λ (x : ℕ). getD k x 0) z)
+
+pub as-stage : (n : ℕ) (k : List ℕ) → length k ≡ 3 * n → ((p : ℕ) → getD k p 0 < 256) → IsStage n k
+as-stage n k e h = subst (IsStage n) (refill n k e) (filled (cell k) (λ i j. h (i + 3 * j)))

@@ -1,3 +1,9 @@
+pub mod Sizes
+pub mod Places
 pub mod Columns
-pub mod Spread
+pub mod ColumnRule
+pub mod Steps
+pub mod Written
+pub mod Padded
+pub mod Stages
 pub mod Claims

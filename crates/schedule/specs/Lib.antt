@@ -1,2 +1,4 @@
 pub mod Columns
+pub mod Sizes
+pub mod Stages
 pub mod Claims

@@ -1,24 +1,17 @@
-// The column rule of the key schedule and its inverse.
+// The key schedule on stages of 2t columns.
 
-ghost use mathlib.Core.Path.{_≡_};
-ghost use mathlib.Core.List.{[], _∷_};
-ghost use Rattle.field.specs.Field.{_⊕_, cubeRoot};
-ghost use Rattle.schedule.specs.Columns.{spread};
+mod column;
+mod size;
+mod stage;
 
-// c times the sum of the column is added to each of its bytes.
-pub fn spread_column(x: u8, y: u8, z: u8) -> [u8; 3]
-    ensures { λ r. ⌜ r ≡ spread cubeRoot 1 (x ∷ y ∷ z ∷ []) ⌝ }
-{
-    let s = x ^ (y ^ z);
-    let m = field::times_c(s);
-    [x ^ m, y ^ m, z ^ m]
-}
-
-// The inverse: c + 1 times the sum.
-pub fn unspread_column(x: u8, y: u8, z: u8) -> [u8; 3]
-    ensures { λ r. ⌜ r ≡ spread (cubeRoot ⊕ 1) 1 (x ∷ y ∷ z ∷ []) ⌝ }
-{
-    let s = x ^ (y ^ z);
-    let m = field::times_c(s) ^ s;
-    [x ^ m, y ^ m, z ^ m]
-}
+pub use size::Key96;
+pub use size::Key144;
+pub use size::Key192;
+pub use size::KeySize;
+pub use size::is_key_length;
+pub use size::size_of_key;
+pub use stage::add_stages;
+pub use stage::linear_step;
+pub use stage::next_stage;
+pub use stage::stage_of_key;
+pub use stage::subkey;

@@ -8,25 +8,25 @@ use Rattle.field.specs.Field.{_⊕_, times, product, reduced, cubeRoot}
 use Rattle.field.proofs.Addition.{assoc, comm, left-comm, cancel, self, zero-right, byte}
 use Rattle.field.proofs.Linear.{Linear, same, agree-bytes, times-left, times-right}
 use Rattle.field.proofs.Multiplication.{times-byte, one-times}
-use Rattle.schedule.specs.Columns.{cell, columns, fill, IsStage, filled, spreadByte, spread}
+use Rattle.schedule.specs.Columns.{cell, columns, fill, IsStage, filled, ruleByte, columnRule}
 use Rattle.schedule.proofs.Columns.{fill-path, cell-fill}
 
-pub spread-fill : (m n : ℕ) (f : ℕ → ℕ → ℕ) → spread m n (fill n f) ≡ fill n (λ i j. spreadByte m (f i j) (f 0 j) (f 1 j) (f 2 j))
-unfolding spread
-spread-fill m n f =
+pub rule-fill : (m n : ℕ) (f : ℕ → ℕ → ℕ) → columnRule m n (fill n f) ≡ fill n (λ i j. ruleByte m (f i j) (f 0 j) (f 1 j) (f 2 j))
+unfolding columnRule
+rule-fill m n f =
     let k = fill n f in
-    fill-path n (λ i j. spreadByte m (cell k i j) (cell k 0 j) (cell k 1 j) (cell k 2 j)) (λ i j. spreadByte m (f i j) (f 0 j) (f 1 j) (f 2 j))
+    fill-path n (λ i j. ruleByte m (cell k i j) (cell k 0 j) (cell k 1 j) (cell k 2 j)) (λ i j. ruleByte m (f i j) (f 0 j) (f 1 j) (f 2 j))
     (λ i j hi hj. ap₂ bitXor (cell-fill n f i j hi hj)
     (ap (times m) (ap₂ bitXor (cell-fill n f 0 j (lit< tt) hj) (ap₂ bitXor (cell-fill n f 1 j (lit< tt) hj) (cell-fill n f 2 j (lit< tt) hj)))))
 
 -- ---- the rule makes a stage of a stage
-spreadByte-byte : (m x a b d : ℕ) → m < 256 → x < 256 → a < 256 → b < 256 → d < 256 → spreadByte m x a b d < 256
-spreadByte-byte m x a b d hm hx ha hb hd = byte x (times m (a ⊕ (b ⊕ d))) hx (times-byte m (a ⊕ (b ⊕ d)) hm (byte a (b ⊕ d) ha (byte b d hb hd)))
+ruleByte-byte : (m x a b d : ℕ) → m < 256 → x < 256 → a < 256 → b < 256 → d < 256 → ruleByte m x a b d < 256
+ruleByte-byte m x a b d hm hx ha hb hd = byte x (times m (a ⊕ (b ⊕ d))) hx (times-byte m (a ⊕ (b ⊕ d)) hm (byte a (b ⊕ d) ha (byte b d hb hd)))
 
-pub spread-stage : (m n : ℕ) {k : List ℕ} → m < 256 → IsStage n k → IsStage n (spread m n k)
-spread-stage m n hm (filled f h) = subst (IsStage n) (sym (spread-fill m n f))
-    (filled (λ i j. spreadByte m (f i j) (f 0 j) (f 1 j) (f 2 j))
-    (λ i j. spreadByte-byte m (f i j) (f 0 j) (f 1 j) (f 2 j) hm (h i j) (h 0 j) (h 1 j) (h 2 j)))
+pub rule-stage : (m n : ℕ) {k : List ℕ} → m < 256 → IsStage n k → IsStage n (columnRule m n k)
+rule-stage m n hm (filled f h) = subst (IsStage n) (sym (rule-fill m n f))
+    (filled (λ i j. ruleByte m (f i j) (f 0 j) (f 1 j) (f 2 j))
+    (λ i j. ruleByte-byte m (f i j) (f 0 j) (f 1 j) (f 2 j) hm (h i j) (h 0 j) (h 1 j) (h 2 j)))
 
 -- ---- the rule with w undoes that with m
 abbrev Undoes : ℕ → ℕ → Type 0
@@ -51,23 +51,23 @@ undoes-inverse = undoes cubeRoot (cubeRoot ⊕ 1) tt
 column-sum : (s x y z : ℕ) → (x ⊕ s) ⊕ ((y ⊕ s) ⊕ (z ⊕ s)) ≡ (x ⊕ (y ⊕ z)) ⊕ s
 column-sum s x y z = simp (assoc, left-comm, comm, cancel)
 
-spreadByte-undone : (m w : ℕ) → Undoes w m → (x a b d : ℕ) → a ⊕ (b ⊕ d) < 256
-    → spreadByte w (spreadByte m x a b d) (spreadByte m a a b d) (spreadByte m b a b d) (spreadByte m d a b d) ≡ x
-spreadByte-undone m w u x a b d h =
+ruleByte-undone : (m w : ℕ) → Undoes w m → (x a b d : ℕ) → a ⊕ (b ⊕ d) < 256
+    → ruleByte w (ruleByte m x a b d) (ruleByte m a a b d) (ruleByte m b a b d) (ruleByte m d a b d) ≡ x
+ruleByte-undone m w u x a b d h =
     let s = times m (a ⊕ (b ⊕ d)) in
-    ap (λ (y : ℕ). spreadByte m x a b d ⊕ times w y) (column-sum s a b d)
-    ∙ ap (bitXor (spreadByte m x a b d)) (u (a ⊕ (b ⊕ d)) h)
+    ap (λ (y : ℕ). ruleByte m x a b d ⊕ times w y) (column-sum s a b d)
+    ∙ ap (bitXor (ruleByte m x a b d)) (u (a ⊕ (b ⊕ d)) h)
     ∙ assoc x s s ∙ ap (bitXor x) (self s) ∙ zero-right x
 
-pub spread-spread : (m w n : ℕ) → Undoes w m → {k : List ℕ} → IsStage n k → spread w n (spread m n k) ≡ k
-spread-spread m w n u (filled f h) =
-    ap (spread w n) (spread-fill m n f) ∙ spread-fill w n (λ i j. spreadByte m (f i j) (f 0 j) (f 1 j) (f 2 j))
+pub rule-undone : (m w n : ℕ) → Undoes w m → {k : List ℕ} → IsStage n k → columnRule w n (columnRule m n k) ≡ k
+rule-undone m w n u (filled f h) =
+    ap (columnRule w n) (rule-fill m n f) ∙ rule-fill w n (λ i j. ruleByte m (f i j) (f 0 j) (f 1 j) (f 2 j))
     ∙ fill-path n _ f (λ i j hi hj.
-    spreadByte-undone m w u (f i j) (f 0 j) (f 1 j) (f 2 j) (byte (f 0 j) (f 1 j ⊕ f 2 j) (h 0 j) (byte (f 1 j) (f 2 j) (h 1 j) (h 2 j))))
+    ruleByte-undone m w u (f i j) (f 0 j) (f 1 j) (f 2 j) (byte (f 0 j) (f 1 j ⊕ f 2 j) (h 0 j) (byte (f 1 j) (f 2 j) (h 1 j) (h 2 j))))
 
 -- ---- the rule on one column, with s times the sum at hand
-pub one-column : (m x y z s : ℕ) → s ≡ times m (x ⊕ (y ⊕ z)) → (x ⊕ s) ∷ (y ⊕ s) ∷ (z ⊕ s) ∷ [] ≡ spread m 1 (x ∷ y ∷ z ∷ [])
-unfolding spread columns
+pub one-column : (m x y z s : ℕ) → s ≡ times m (x ⊕ (y ⊕ z)) → (x ⊕ s) ∷ (y ⊕ s) ∷ (z ⊕ s) ∷ [] ≡ columnRule m 1 (x ∷ y ∷ z ∷ [])
+unfolding columnRule columns
 one-column m x y z s e = ap (λ (s : ℕ). (x ⊕ s) ∷ (y ⊕ s) ∷ (z ⊕ s) ∷ []) e
 
 -- c + 1 times a byte

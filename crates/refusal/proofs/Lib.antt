@@ -1,0 +1,2 @@
+pub mod Tries
+pub mod Claims

@@ -1,0 +1,43 @@
+-- The numbers of the reasons: document 01, "Reasons found in the input" and "Reasons found in the state".
+use Prim.Native.Nat.{ℕ}
+use Rattle.refusal.specs.declared.Reason.{Reason}
+use Rattle.refusal.specs.declared.Reason.the-variants.{KeyLength, RoundCount, InputLength, OutputTooShort, StageOrList, Contractor, Right, NotAGrant, OtherBlock, OtherRight, NotInStanding, InStanding, CountSpent, OtherCount, BrokenHolder}
+use Rattle.refusal.specs.declared.Outcome.{Outcome}
+use Rattle.refusal.specs.declared.Outcome.the-variants.{Done, Refused}
+
+abbrev pub reasonNumber : Reason → ℕ
+-- key not 12, 18 or 24 bytes
+reasonNumber KeyLength = 1
+-- round count outside the table's row
+reasonNumber RoundCount = 2
+-- block or grant not 12 bytes; in the C call also a roll not 400 bytes
+reasonNumber InputLength = 3
+-- output too short
+reasonNumber OutputTooShort = 4
+-- stage number 6t or more; or a subkey list whose length is under 132, over 288 or not a multiple of 12
+reasonNumber StageOrList = 5
+-- contractor outside 1 to 200
+reasonNumber Contractor = 6
+-- right neither 1 nor 2
+reasonNumber Right = 7
+-- deciphered bytes have a wrong mark, contractor or right
+reasonNumber NotAGrant = 8
+-- grant for another size block
+reasonNumber OtherBlock = 9
+-- grant for another right
+reasonNumber OtherRight = 10
+-- contractor not in standing
+reasonNumber NotInStanding = 20
+-- entering someone in standing
+reasonNumber InStanding = 21
+-- entering at count 65,534 or 65,535
+reasonNumber CountSpent = 22
+-- grant's count differs from the roll's
+reasonNumber OtherCount = 23
+-- holder with a wrong key length, a stage number of 6t or more, or non-zero bytes past the key
+reasonNumber BrokenHolder = 24
+
+-- the number that an answer stands for: 0 where the work was done
+abbrev pub outcomeNumber : Outcome → ℕ
+outcomeNumber Done = 0
+outcomeNumber (Refused r) = reasonNumber r

@@ -1,0 +1,25 @@
+-- The order of refusals: document 01's order lines as lists of tries. A call tries its reasons in order, and the first that holds is
+-- the one given; where none holds, it does not refuse.
+use mathlib.Core.Bool.{Bool, true, cond}
+use mathlib.Core.Path.{_≡_}
+use mathlib.Core.List.{List, [], _∷_}
+use Prim.Native.Nat.{ℕ}
+
+-- a reason's number, and the test that has to pass for the reason not to hold
+pub record Try : Type 0 where
+  pub number : ℕ
+  pub passes : Bool
+
+infix 20 _unless_
+abbrev pub _unless_ : ℕ → Bool → Try
+_unless_ n b = record { number = n; passes = b }
+
+-- the number of the first reason that holds, or 0 where none does
+unfoldable pub first : List Try → ℕ
+first [] = 0
+first (t ∷ ts) = cond (t .passes) (first ts) (t .number)
+
+-- no reason of a list holds
+abbrev pub NoneHolds : List Try → Type 0
+NoneHolds [] = Unit {0}
+NoneHolds (t ∷ ts) = (t .passes ≡ true) × NoneHolds ts

@@ -1,0 +1,62 @@
+// Why a call refuses: the reasons by name, their numbers, and the answer of a call that either does its work or refuses.
+
+ghost use mathlib.Core.Path.{_≡_};
+ghost use Rattle.refusal.specs.Reasons.{reasonNumber, outcomeNumber};
+
+// Document 01's reasons found in the input and in the state.
+pub enum Reason {
+    KeyLength,
+    RoundCount,
+    InputLength,
+    OutputTooShort,
+    StageOrList,
+    Contractor,
+    Right,
+    NotAGrant,
+    OtherBlock,
+    OtherRight,
+    NotInStanding,
+    InStanding,
+    CountSpent,
+    OtherCount,
+    BrokenHolder,
+}
+
+// What a call over lent bytes answers.
+pub enum Outcome {
+    Done,
+    Refused(Reason),
+}
+
+// Document 01's number of a reason.
+pub fn reason_number(r: Reason) -> u32
+    ensures { λ n. ⌜ n ≡ reasonNumber r ⌝ }
+{
+    match r {
+        Reason::KeyLength => 1,
+        Reason::RoundCount => 2,
+        Reason::InputLength => 3,
+        Reason::OutputTooShort => 4,
+        Reason::StageOrList => 5,
+        Reason::Contractor => 6,
+        Reason::Right => 7,
+        Reason::NotAGrant => 8,
+        Reason::OtherBlock => 9,
+        Reason::OtherRight => 10,
+        Reason::NotInStanding => 20,
+        Reason::InStanding => 21,
+        Reason::CountSpent => 22,
+        Reason::OtherCount => 23,
+        Reason::BrokenHolder => 24,
+    }
+}
+
+// The number of a refusal, or 0.
+pub fn outcome_number(o: Outcome) -> u32
+    ensures { λ n. ⌜ n ≡ outcomeNumber o ⌝ }
+{
+    match o {
+        Outcome::Done => 0,
+        Outcome::Refused(r) => reason_number(r),
+    }
+}

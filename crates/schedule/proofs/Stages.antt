@@ -1,0 +1,37 @@
+-- The stages of a key are stages, and so are the constants and the closing sum.
+use mathlib.Core.Path.{_≡_}
+use mathlib.Core.List.{List}
+use Prim.Native.Nat.{ℕ, zero, suc, _+_, _-_, _*_, _<_}
+use lib.ListN.{length}
+use lib.Dec.{lit<}
+use Rattle.sbox.specs.Sbox.{sbox}
+use Rattle.sbox.proofs.Laws.{sbox-small}
+use Rattle.schedule.specs.Columns.{IsStage, filled}
+use Rattle.schedule.specs.Stages.{byRow, constant, stage, zeros, closingSum}
+use Rattle.schedule.proofs.Steps.{step-stage, plus-stage}
+use Rattle.schedule.proofs.Padded.{stage-length}
+
+row-small : (i a : ℕ) → a < 256 → byRow i a 0 0 < 256
+row-small zero a h = h
+row-small (suc zero) a h = lit< tt
+row-small (suc (suc i)) a h = lit< tt
+
+pub constant-stage : (t s : ℕ) → IsStage (2 * t) (constant t s)
+unfolding constant
+constant-stage t s = filled (λ i j. byRow i (sbox (2 * t * (s - 1) + j)) 0 0) (λ i j. row-small i (sbox (2 * t * (s - 1) + j)) (sbox-small (2 * t * (s - 1) + j)))
+
+pub constant-length : (t s : ℕ) → length (constant t s) ≡ 3 * (2 * t)
+constant-length t s = stage-length (2 * t) (constant-stage t s)
+
+pub zeros-stage : (n : ℕ) → IsStage n (zeros n)
+unfolding zeros
+zeros-stage n = filled (λ i j. 0) (λ i j. lit< tt)
+
+pub stage-stage : (t : ℕ) {k : List ℕ} → IsStage (2 * t) k → (s : ℕ) → IsStage (2 * t) (stage t k s)
+unfolding stage
+stage-stage t h zero = h
+stage-stage t h (suc s) = step-stage (2 * t) (plus-stage (2 * t) (stage-stage t h s) (constant-stage t (suc s)))
+
+pub closing-stage : (t : ℕ) → IsStage (2 * t) (closingSum t)
+unfolding closingSum
+closing-stage t = stage-stage t (zeros-stage (2 * t)) (6 * t - 1)

@@ -1,0 +1,22 @@
+use mathlib.Core.Path.{ap, _∙_}
+use Prim.Native.Nat.{ℕ}
+use Rattle.field.specs.Field.{_⊕_}
+use Rattle.field.proofs.Addition.{byte}
+use Rattle.schedule.proofs.ColumnRule.{times-inverse}
+use borrow.Author.Needs.{needs}
+use Rattle.schedule.proofs.column.inverse_column_term.Statement.{statement}
+use Rattle.schedule.proofs.column.inverse_column_term.Tie as tie
+
+times-c-requires : tie.Need-times-c-requires
+times-c-requires c κs = search needs
+
+returns : tie.Need-returns
+returns c =
+    let x = c .before .args .x in
+    let y = c .before .args .y in
+    let z = c .before .args .z in
+    ap (λ (m : ℕ). m ⊕ (x ⊕ (y ⊕ z))) (c .times-c .ensures)
+    ∙ times-inverse (x ⊕ (y ⊕ z)) (byte x (y ⊕ z) (search needs) (byte y z (search needs) (search needs)))
+
+pub inverse-column-term-spec : {M : Type 1} → statement M
+inverse-column-term-spec = tie.close (tie.spec times-c-requires returns)

@@ -1,0 +1,120 @@
+use mathlib.Core.Path.{_≡_, refl, ap, _∙_}
+use Prim.Native.Nat.{ℕ, _+_, _-_, _*_, _≤_}
+use native.Mathlib.Nat.{mod-eq-of-lt}
+use native.Mathlib.Omega.{arith}
+use Rattle.sbox.specs.Sbox.{sbox}
+use Rattle.schedule.specs.Columns.{columns, fill, padded}
+use Rattle.schedule.specs.Stages.{byRow, constant}
+use Rattle.schedule.proofs.Places.{entry-place}
+use Rattle.schedule.proofs.Written.{written-column}
+use borrow.Author.Needs.{needs}
+use Rattle.schedule.proofs.stage.constant_of.Statement.{statement}
+use Rattle.schedule.proofs.stage.constant_of.Tie as tie
+
+abbrev Inv-loop : tie.InvT-loop
+Inv-loop t s n first out₀ j₀ out j = ((n ≡ 2 * t) × (first ≡ n * (s - 1))) × ((j ≤ n) × (out ≡ padded (fill j (λ i j. byRow i (sbox (2 * t * (s - 1) + j)) 0 0))))
+
+abbrev μ-loop : tie.MeasureT-loop
+μ-loop t s n first out₀ j₀ out j = n - j
+
+mul-n : tie.Need-mul-n Inv-loop μ-loop
+mul-n c = search needs
+
+sub-first : tie.Need-sub-first Inv-loop μ-loop
+sub-first c = search needs
+
+mul-first : tie.Need-mul-first Inv-loop μ-loop
+mul-first c = omega (arith, entry-place (c .args .t) (c .pre .0) (c .args .s) 0 (c .pre .1 .1) (omega (arith, c .pre .0 .least)))
+
+loop-holds : tie.Need-loop-holds Inv-loop μ-loop
+unfolding padded columns
+loop-holds c = ((refl, refl), (omega arith, refl))
+
+add-substitute-byte : tie.Need-add-substitute-byte Inv-loop μ-loop
+add-substitute-byte c =
+    omega (arith, entry-place (c .before .before .args .t) (c .before .before .pre .0) (c .before .before .args .s) (c .before .loop .j) (c .before .before .pre .1 .1) (omega arith))
+
+cast-substitute-byte : tie.Need-cast-substitute-byte Inv-loop μ-loop
+cast-substitute-byte c = search needs
+
+substitute-byte-requires : tie.Need-substitute-byte-requires Inv-loop μ-loop
+substitute-byte-requires c κs = search needs
+
+mul-out : tie.Need-mul-out Inv-loop μ-loop
+mul-out c = search needs
+
+array-write-out : tie.Need-array-write-out Inv-loop μ-loop
+array-write-out c = search needs
+
+mul-out-2 : tie.Need-mul-out-2 Inv-loop μ-loop
+mul-out-2 c = search needs
+
+add-out : tie.Need-add-out Inv-loop μ-loop
+add-out c = search needs
+
+array-write-out-2 : tie.Need-array-write-out-2 Inv-loop μ-loop
+array-write-out-2 c = search needs
+
+mul-out-3 : tie.Need-mul-out-3 Inv-loop μ-loop
+mul-out-3 c = search needs
+
+add-out-2 : tie.Need-add-out-2 Inv-loop μ-loop
+add-out-2 c = search needs
+
+array-write-out-3 : tie.Need-array-write-out-3 Inv-loop μ-loop
+array-write-out-3 c = search needs
+
+add-j : tie.Need-add-j Inv-loop μ-loop
+add-j c = search needs
+
+loop-less : tie.Need-loop-less Inv-loop μ-loop
+loop-less c = search needs
+
+loop-again : tie.Need-loop-again Inv-loop μ-loop
+loop-again c =
+    let t = c .before .before .before .args .t in
+    let s = c .before .before .before .args .s in
+    let j = c .before .before .loop .j in (
+      (refl, refl),
+      (
+        search needs,
+        written-column (λ i j. byRow i (sbox (2 * t * (s - 1) + j)) 0 0) j (c .before .before .loop .out) _ _ _ (omega arith) (c .before .before .loop .inv .1 .1)
+            (c .substitute-byte .ensures
+            ∙ ap sbox (mod-eq-of-lt (entry-place t (c .before .before .before .pre .0) s j (c .before .before .before .pre .1 .1) (omega arith))))
+            refl refl,
+      ),
+    )
+
+returns : tie.Need-returns Inv-loop μ-loop
+unfolding constant
+returns c =
+    let t = c .before .before .args .t in
+    let s = c .before .before .args .s in
+    let e : c .before .loop .j ≡ 2 * t = omega arith in
+    c .before .loop .inv .1 .1 ∙ ap (λ (j : ℕ). padded (fill j (λ i j. byRow i (sbox (2 * t * (s - 1) + j)) 0 0))) e
+
+pub constant-of-spec : {M : Type 1} → statement M
+constant-of-spec =
+    tie.close
+    (tie.spec
+    Inv-loop
+    μ-loop
+    mul-n
+    sub-first
+    mul-first
+    loop-holds
+    add-substitute-byte
+    cast-substitute-byte
+    substitute-byte-requires
+    mul-out
+    array-write-out
+    mul-out-2
+    add-out
+    array-write-out-2
+    mul-out-3
+    add-out-2
+    array-write-out-3
+    add-j
+    loop-less
+    loop-again
+    returns)

@@ -1,0 +1,60 @@
+use mathlib.Core.Path.{_≡_, refl, ap, _∙_}
+use mathlib.Core.List.{List}
+use Prim.Native.Nat.{ℕ, _-_, _≤_}
+use native.Mathlib.Omega.{arith}
+use lib.ListN.{length, getD, take, set}
+use denote.Ref.{now}
+use lib.Seq.{take-length}
+use Rattle.schedule.specs.Columns.{padded}
+use Rattle.schedule.proofs.Written.{padded-next}
+use borrow.Author.Needs.{needs}
+use Rattle.schedule.proofs.stage.stage_of_key.Statement.{statement}
+use Rattle.schedule.proofs.stage.stage_of_key.Tie as tie
+
+abbrev Inv-loop : tie.InvT-loop
+Inv-loop key out₀ i₀ out i = (i ≤ length key) × (out ≡ padded (take i key))
+
+abbrev μ-loop : tie.MeasureT-loop
+μ-loop key out₀ i₀ out i = length key - i
+
+loop-holds : tie.Need-loop-holds Inv-loop μ-loop
+unfolding padded
+loop-holds c = (omega arith, refl)
+
+shared-slice-read-out : tie.Need-shared-slice-read-out Inv-loop μ-loop
+shared-slice-read-out c = search needs
+
+array-write-out : tie.Need-array-write-out Inv-loop μ-loop
+array-write-out c = search needs
+
+add-i : tie.Need-add-i Inv-loop μ-loop
+add-i c = search needs
+
+loop-less : tie.Need-loop-less Inv-loop μ-loop
+loop-less c = search needs
+
+loop-again : tie.Need-loop-again Inv-loop μ-loop
+loop-again c =
+    let key = now (c .before .before .before .args .key) in
+    let i = c .before .before .loop .i in
+    (search needs, ap (λ (out : List ℕ). set out i (getD key i 0)) (c .before .before .loop .inv .1) ∙ padded-next key i (omega arith) (c .before .before .before .pre))
+
+returns : tie.Need-returns Inv-loop μ-loop
+returns c =
+    let key = now (c .before .before .args .key) in
+    let e : c .before .loop .i ≡ length key = omega arith in
+    c .before .loop .inv .1 ∙ ap padded (ap (λ (i : ℕ). take i key) e ∙ take-length key)
+
+pub stage-of-key-spec : {M : Type 1} → statement M
+stage-of-key-spec =
+    tie.close
+    (tie.spec
+    Inv-loop
+    μ-loop
+    loop-holds
+    shared-slice-read-out
+    array-write-out
+    add-i
+    loop-less
+    loop-again
+    returns)

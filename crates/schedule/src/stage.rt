@@ -1,0 +1,124 @@
+// A stage after another, and a stage's subkey. A stage of 2t columns is kept in 24 bytes, with zeros past it.
+
+ghost use mathlib.Core.Path.{_≡_};
+ghost use Prim.Native.Nat.{_+_, _*_, _≤_, _<_};
+ghost use lib.ListN.{length};
+ghost use Rattle.sbox.specs.Sbox.{sbox};
+ghost use Rattle.schedule.specs.Columns.{cell, plus, padded};
+ghost use Rattle.schedule.specs.Stages.{next, previous, linearStep, constant, subkeyOf};
+ghost use Rattle.schedule.specs.Sizes.{Sized, Place};
+use crate::column::column_term;
+
+// The column after j around n columns.
+fn next_column(n: usize, j: usize) -> usize
+    requires { ⌜ j < n ⌝ }
+    ensures { λ r. ⌜ Place r (next n j) n ⌝ }
+{
+    if j + 1 < n { j + 1 } else { 0 }
+}
+
+// The column before j around n columns.
+fn previous_column(n: usize, j: usize) -> usize
+    requires { ⌜ j < n ⌝ }
+    ensures { λ r. ⌜ Place r (previous n j) n ⌝ }
+{
+    if 0 < j { j - 1 } else { n - 1 }
+}
+
+// The byte in row i, column j.
+fn byte_at(k: [u8; 24], i: usize, j: usize) -> u8
+    requires { ⌜ (i < 3) × (j < 8) ⌝ }
+    ensures { λ r. ⌜ r ≡ cell k i j ⌝ }
+{
+    k[i + 3 * j]
+}
+
+// The linear step of a stage of 2t columns.
+pub fn linear_step(t: usize, k: [u8; 24]) -> [u8; 24]
+    requires { ⌜ Sized t ⌝ }
+    ensures { λ r. ⌜ r ≡ padded (linearStep (2 * t) k) ⌝ }
+{
+    let n = 2 * t;
+    let mut out = [0u8; 24];
+    let mut j: usize = 0;
+    while j < n {
+        let x = byte_at(k, 0, j);
+        let y = byte_at(k, 1, next_column(n, j));
+        let z = byte_at(k, 2, previous_column(n, j));
+        let m = column_term(x, y, z);
+        out[3 * j] = x ^ m;
+        out[3 * j + 1] = y ^ m;
+        out[3 * j + 2] = z ^ m;
+        j += 1;
+    }
+    out
+}
+
+// Constant s for keys of 2t columns, s from 1 to 6t - 1.
+pub fn constant_of(t: usize, s: usize) -> [u8; 24]
+    requires { ⌜ Sized t × ((0 < s) × (s < 6 * t)) ⌝ }
+    ensures { λ r. ⌜ r ≡ padded (constant t s) ⌝ }
+{
+    let n = 2 * t;
+    let first = n * (s - 1);
+    let mut out = [0u8; 24];
+    let mut j: usize = 0;
+    while j < n {
+        out[3 * j] = sbox::substitute_byte(((first + j) % 256) as u8);
+        out[3 * j + 1] = 0;
+        out[3 * j + 2] = 0;
+        j += 1;
+    }
+    out
+}
+
+// The sum of two stages.
+pub fn add_stages(a: [u8; 24], b: [u8; 24]) -> [u8; 24]
+    ensures { λ r. ⌜ r ≡ plus 8 a b ⌝ }
+{
+    let mut out = [0u8; 24];
+    let mut j: usize = 0;
+    while j < 8 {
+        out[3 * j] = byte_at(a, 0, j) ^ byte_at(b, 0, j);
+        out[3 * j + 1] = byte_at(a, 1, j) ^ byte_at(b, 1, j);
+        out[3 * j + 2] = byte_at(a, 2, j) ^ byte_at(b, 2, j);
+        j += 1;
+    }
+    out
+}
+
+// Stage s from stage s - 1.
+pub fn next_stage(t: usize, s: usize, k: [u8; 24]) -> [u8; 24]
+    requires { ⌜ Sized t × ((0 < s) × (s < 6 * t)) ⌝ }
+    ensures { λ r. ⌜ r ≡ padded (linearStep (2 * t) (plus (2 * t) k (constant t s))) ⌝ }
+{
+    let c = constant_of(t, s);
+    let sum = add_stages(k, c);
+    linear_step(t, sum)
+}
+
+// A stage's subkey: its first four columns, with the S-box on row 0.
+pub fn subkey(k: [u8; 24]) -> [[u8; 3]; 4]
+    ensures { λ r. ⌜ r ≡ subkeyOf k ⌝ }
+{
+    [
+        [sbox::substitute_byte(k[0]), k[1], k[2]],
+        [sbox::substitute_byte(k[3]), k[4], k[5]],
+        [sbox::substitute_byte(k[6]), k[7], k[8]],
+        [sbox::substitute_byte(k[9]), k[10], k[11]],
+    ]
+}
+
+// A key's bytes as stage 0: zeros past them.
+pub fn stage_of_key(key: &[u8]) -> [u8; 24]
+    requires { ⌜ length (now key) ≤ 24 ⌝ }
+    ensures { λ r. ⌜ r ≡ padded (now (key .entry)) ⌝ }
+{
+    let mut out = [0u8; 24];
+    let mut i: usize = 0;
+    while i < key.len() {
+        out[i] = key[i];
+        i += 1;
+    }
+    out
+}
