@@ -1,0 +1,5 @@
+pub mod Alike
+pub mod Home
+pub mod Before
+pub mod Closing
+pub mod Claims
