@@ -1,16 +1,16 @@
 -- The 6t-th power of the linear step is the identity. The step is run once, on letters: each byte of a stage is a sum of the key's
 -- bytes, each times 0, 1, c or c + 1, so a stage is a list of such sums. What the letters come to is what the bytes come to.
 use mathlib.Core.Path.{_≡_, refl, sym, ap, ap₂, _∙_, subst}
-use mathlib.Core.Bool.{Bool, true, false, _&&_}
+use mathlib.Core.Bool.{Bool}
 use mathlib.Core.List.{List, [], _∷_, map}
-use Prim.Native.Nat.{ℕ, zero, suc, _+_, _-_, _*_, _≤_, _<_}
+use Prim.Native.Nat.{ℕ, zero, suc, _+_, _-_, _*_, _<_}
 use native.Mathlib.Nat.{not-suc-le-zero, le-of-suc-le-suc}
 use native.Mathlib.Omega.{arith}
 use lib.ListN.{getD, List·getD-map}
 use lib.Dec.{T, eqb, eqb→eq}
 use lib.Bits.{bitXor}
 use Rattle.field.specs.Field.{_⊕_, times, product, reduced, cubeRoot}
-use Rattle.field.proofs.Computed.{and-left, and-right, all, passed}
+use Rattle.field.proofs.Computed.{all, passed}
 use Rattle.field.proofs.Addition.{assoc, comm, cancel, self, zero-right, exchange}
 use Rattle.field.proofs.Linear.{same, agree-bytes, times-right}
 use Rattle.field.proofs.Multiplication.{times-zero}

@@ -1,2 +1,4 @@
+pub mod Tests
 pub mod Tries
+pub mod Answers
 pub mod Claims

@@ -2,8 +2,10 @@
 -- the one given; where none holds, it does not refuse.
 use mathlib.Core.Bool.{Bool, true, cond}
 use mathlib.Core.Path.{_≡_}
-use mathlib.Core.List.{List, [], _∷_}
+use mathlib.Core.List.{List, [], _∷_, _++_}
 use Prim.Native.Nat.{ℕ}
+use lib.Dec.{eqb}
+use lib.ListN.{length, drop}
 
 -- a reason's number, and the test that has to pass for the reason not to hold
 pub record Try : Type 0 where
@@ -23,3 +25,8 @@ first (t ∷ ts) = cond (t .passes) (first ts) (t .number)
 abbrev pub NoneHolds : List Try → Type 0
 NoneHolds [] = Unit {0}
 NoneHolds (t ∷ ts) = (t .passes ≡ true) × NoneHolds ts
+
+-- what a lent output holds after a call that gives the number n: where it does not refuse, the bytes it writes and then what stood
+-- after them; where it refuses, what stood there
+unfoldable pub written : ℕ → List ℕ → List ℕ → List ℕ
+written n bytes out = cond (eqb n 0) (bytes ++ drop (length bytes) out) out

@@ -1,0 +1,27 @@
+-- What a call over lent bytes has to show at each return: its number is the first that holds, and the output is as `written` says.
+use mathlib.Core.Path.{_≡_, sym, ap, _∙_}
+use mathlib.Core.Bool.{Bool, cond}
+use mathlib.Core.List.{List, _++_}
+use Prim.Native.Nat.{ℕ, _<_}
+use native.Mathlib.Omega.{arith}
+use lib.ListN.{length, drop}
+use borrow.Author.Tests.{eq-eqb, ne-eqb}
+use Rattle.refusal.specs.Tries.{Try, first, written}
+
+-- a refusal changes no byte
+pub kept : (n : ℕ) (bytes out : List ℕ) → 0 < n → out ≡ written n bytes out
+unfolding written
+kept n bytes out h = sym (ap (λ (b : Bool). cond b (bytes ++ drop (length bytes) out) out) (ne-eqb n 0 (λ e. omega arith)))
+
+-- the work done
+pub put : (n : ℕ) (bytes out : List ℕ) → n ≡ 0 → bytes ++ drop (length bytes) out ≡ written n bytes out
+unfolding written
+put n bytes out e = sym (ap (λ (b : Bool). cond b (bytes ++ drop (length bytes) out) out) (eq-eqb n 0 e))
+
+-- a refusal with the number n
+pub refuses : (ts : List Try) (n : ℕ) (bytes out : List ℕ) → 0 < n → first ts ≡ n → (n ≡ first ts) × (out ≡ written (first ts) bytes out)
+refuses ts n bytes out h e = (sym e, kept n bytes out h ∙ ap (λ (m : ℕ). written m bytes out) (sym e))
+
+-- no refusal
+pub succeeds : (ts : List Try) (bytes out : List ℕ) → first ts ≡ 0 → (0 ≡ first ts) × (bytes ++ drop (length bytes) out ≡ written (first ts) bytes out)
+succeeds ts bytes out e = (sym e, put (first ts) bytes out e)

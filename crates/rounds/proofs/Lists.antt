@@ -1,0 +1,69 @@
+-- Lent lists: their lengths, their subkeys, and the rounds one subkey after the other.
+use mathlib.Core.Path.{_≡_, refl, sym, ap, ap₂, _∙_}
+use mathlib.Core.Bool.{Bool, true, false, _&&_}
+use mathlib.Core.List.{List, [], _∷_}
+use Prim.Native.Nat.{ℕ, suc, _*_, _/_, _%_, _≤_, _<_}
+use native.Mathlib.Omega.{arith}
+use lib.Dec.{leb, eqb}
+use lib.ListN.{length, getD, take, drop}
+use lib.Seq.{drop-cons, drop-length}
+use borrow.Author.Tests.{le-leb, lt-leb, leb-true, eqb-true}
+use Rattle.refusal.proofs.Tests.{and-first, and-second}
+use Rattle.layers.specs.State.{State}
+use Rattle.layers.specs.Layers.{added}
+use Rattle.rounds.specs.Rounds.{round, lastRound, rounds, enciphered}
+use Rattle.rounds.specs.Engine.{stateOf, listStates, listLength}
+use Rattle.rounds.proofs.Turned.{length-listed, getD-listed}
+
+-- ---- the test of a list's length
+pub too-short : (n : ℕ) → n < 132 → false ≡ listLength n
+too-short n h = sym (ap (λ (b : Bool). b && (leb n 288 && eqb (n % 12) 0)) (lt-leb 132 n h))
+
+pub too-long : (n : ℕ) → 132 ≤ n → 288 < n → false ≡ listLength n
+too-long n l h = sym (ap₂ (λ (a b : Bool). a && (b && eqb (n % 12) 0)) (le-leb 132 n l) (lt-leb n 288 h))
+
+pub within : (n : ℕ) → 132 ≤ n → n ≤ 288 → eqb (n % 12) 0 ≡ listLength n
+within n l h = sym (ap₂ (λ (a b : Bool). a && (b && eqb (n % 12) 0)) (le-leb 132 n l) (le-leb n 288 h))
+
+-- what a passed test says
+pub record Whole (n : ℕ) : Type 0 where
+  pub least : 132 ≤ n
+  pub most : n ≤ 288
+  pub twelves : n % 12 ≡ 0
+
+pub whole : (n : ℕ) → listLength n ≡ true → Whole n
+whole n e =
+    let later = and-second (leb 132 n) (leb n 288 && eqb (n % 12) 0) e in
+    record {
+      least = leb-true 132 n (and-first (leb 132 n) (leb n 288 && eqb (n % 12) 0) e);
+      most = leb-true n 288 (and-first (leb n 288) (eqb (n % 12) 0) later);
+      twelves = eqb-true (n % 12) 0 (and-second (leb n 288) (eqb (n % 12) 0) later);
+    }
+
+-- ---- the subkeys of a lent list
+pub length-states : (bytes : List ℕ) → length (listStates bytes) ≡ length bytes / 12
+unfolding listStates
+length-states bytes = length-listed (length bytes / 12) (λ r. stateOf (take 12 (drop (12 * r) bytes)))
+
+pub state-at : (bytes : List ℕ) (r : ℕ) → r < length bytes / 12 → getD (listStates bytes) r [] ≡ stateOf (take 12 (drop (12 * r) bytes))
+unfolding listStates
+state-at bytes r h = getD-listed [] (length bytes / 12) (λ r. stateOf (take 12 (drop (12 * r) bytes))) r h
+
+-- ---- the rounds from subkey r on
+module _ (ks : List State) (r : ℕ) (a : State) where
+  pub round-on : suc r < length ks → rounds (drop r ks) a ≡ rounds (drop (suc r) ks) (round (getD ks r []) a)
+  unfolding rounds
+  round-on h =
+      ap (λ (l : List State). rounds l a) (drop-cons ks r [] (omega arith) ∙ ap {B = List State} (λ l. getD ks r [] ∷ l) (drop-cons ks (suc r) [] h))
+      ∙ sym (ap (λ (l : List State). rounds l (round (getD ks r []) a)) (drop-cons ks (suc r) [] h))
+
+  pub round-last : suc r ≡ length ks → rounds (drop r ks) a ≡ lastRound (getD ks r []) a
+  unfolding rounds
+  round-last e =
+      ap (λ (l : List State). rounds l a)
+      (drop-cons ks r [] (omega arith) ∙ ap {B = List State} (λ l. getD ks r [] ∷ l) (ap (λ (m : ℕ). drop m ks) e ∙ drop-length ks))
+
+pub whitened : (ks : List State) (a : State) → 0 < length ks → enciphered ks a ≡ rounds (drop 1 ks) (added (getD ks 0 []) a)
+unfolding enciphered
+whitened [] a h = let z : ⊥ = omega arith in absurd z
+whitened (k ∷ ks) a h = refl

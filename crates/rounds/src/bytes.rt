@@ -1,0 +1,37 @@
+// A state from twelve lent bytes, and a state written to lent bytes: byte i + 3j is row i, column j.
+
+ghost use mathlib.Core.Path.{_≡_};
+ghost use mathlib.Core.List.{_++_};
+ghost use Prim.Native.Nat.{_≤_};
+ghost use lib.ListN.{length, drop};
+ghost use Rattle.rounds.specs.Engine.{stateOf, bytesOf};
+
+pub fn state_of(b: &[u8]) -> [[u8; 3]; 4]
+    requires { ⌜ 12 ≤ length (now b) ⌝ }
+    ensures { λ r. ⌜ r ≡ stateOf (now (b .entry)) ⌝ }
+{
+    [
+        [b[0], b[1], b[2]],
+        [b[3], b[4], b[5]],
+        [b[6], b[7], b[8]],
+        [b[9], b[10], b[11]],
+    ]
+}
+
+pub fn write_state(out: &mut [u8], a: [[u8; 3]; 4])
+    requires { ⌜ 12 ≤ length (now out) ⌝ }
+    ensures { λ _. ⌜ now (out .exit) ≡ bytesOf a ++ drop 12 (now (out .entry)) ⌝ }
+{
+    out[0] = a[0][0];
+    out[1] = a[0][1];
+    out[2] = a[0][2];
+    out[3] = a[1][0];
+    out[4] = a[1][1];
+    out[5] = a[1][2];
+    out[6] = a[2][0];
+    out[7] = a[2][1];
+    out[8] = a[2][2];
+    out[9] = a[3][0];
+    out[10] = a[3][1];
+    out[11] = a[3][2];
+}

@@ -1,0 +1,65 @@
+// The engine: the whole enciphering of a block under a lent subkey list, whether a key gives the list or not.
+
+ghost use mathlib.Core.Path.{_≡_};
+ghost use mathlib.Core.Bool.{true};
+ghost use lib.ListN.{length};
+ghost use Rattle.refusal.specs.Reasons.{outcomeNumber};
+ghost use Rattle.refusal.specs.Tries.{first, written};
+ghost use Rattle.rounds.specs.Rounds.{enciphered};
+ghost use Rattle.rounds.specs.Engine.{listStates, listLength, engineTries, engineBlock};
+use crate::bytes::state_of;
+use crate::bytes::write_state;
+use crate::round::last_round;
+use crate::round::middle_round;
+use refusal::Outcome;
+use refusal::Reason;
+
+fn is_list_length(n: usize) -> bool
+    ensures { λ r. ⌜ r ≡ listLength n ⌝ }
+{
+    if n < 132 {
+        return false;
+    }
+    if 288 < n {
+        return false;
+    }
+    n % 12 == 0
+}
+
+// The rounds under all subkeys of a list.
+fn encipher_state(list: &[u8], a: [[u8; 3]; 4]) -> [[u8; 3]; 4]
+    requires { ⌜ listLength (length (now list)) ≡ true ⌝ }
+    ensures { λ r. ⌜ r ≡ enciphered (listStates (now (list .entry))) a ⌝ }
+{
+    let n = list.len() / 12;
+    let mut state = layers::add_key(state_of(&list[..12]), a);
+    let mut r: usize = 1;
+    while r + 1 < n {
+        let at = 12 * r;
+        let k = state_of(&list[at..at + 12]);
+        let next = middle_round(k, state);
+        state = next;
+        r += 1;
+    }
+    let at = 12 * r;
+    last_round(state_of(&list[at..at + 12]), state)
+}
+
+// Enciphers a block under a lent list of 11 to 24 subkeys.
+pub fn run(list: &[u8], block: &[u8], out: &mut [u8]) -> Outcome
+    ensures { λ r. ⌜ outcomeNumber r ≡ first (engineTries (now (list .entry)) (now (block .entry)) (now (out .entry))) ⌝ }
+    ensures { λ _. ⌜ now (out .exit) ≡ written (first (engineTries (now (list .entry)) (now (block .entry)) (now (out .entry)))) (engineBlock (now (list .entry)) (now (block .entry))) (now (out .entry)) ⌝ }
+{
+    if !is_list_length(list.len()) {
+        return Outcome::Refused(Reason::StageOrList);
+    }
+    if block.len() != 12 {
+        return Outcome::Refused(Reason::InputLength);
+    }
+    if out.len() < 12 {
+        return Outcome::Refused(Reason::OutputTooShort);
+    }
+    let enciphered = encipher_state(list, state_of(block));
+    write_state(out, enciphered);
+    Outcome::Done
+}
