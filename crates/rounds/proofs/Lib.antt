@@ -1,4 +1,3 @@
 pub mod Turned
 pub mod Restored
-pub mod Lists
 pub mod Claims

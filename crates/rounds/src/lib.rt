@@ -1,11 +1,23 @@
-// The rounds of the cipher: one round on a state by value, states to and from lent bytes, and the engine over a lent subkey list.
+// A round of the cipher on a state by value: the layers in their order under one subkey.
 
-mod bytes;
-mod engine;
-mod round;
+ghost use mathlib.Core.Path.{_≡_};
+ghost use Rattle.rounds.specs.Rounds.{round, lastRound};
 
-pub use bytes::state_of;
-pub use bytes::write_state;
-pub use engine::run;
-pub use round::last_round;
-pub use round::middle_round;
+// Rounds 1 to R - 1.
+pub fn middle_round(k: [[u8; 3]; 4], a: [[u8; 3]; 4]) -> [[u8; 3]; 4]
+    ensures { λ r. ⌜ r ≡ round k a ⌝ }
+{
+    let substituted = layers::substitute(a);
+    let permuted = layers::permute(substituted);
+    let diffused = layers::diffuse(permuted);
+    layers::add_key(k, diffused)
+}
+
+// The last round, which has no diffusion.
+pub fn last_round(k: [[u8; 3]; 4], a: [[u8; 3]; 4]) -> [[u8; 3]; 4]
+    ensures { λ r. ⌜ r ≡ lastRound k a ⌝ }
+{
+    let substituted = layers::substitute(a);
+    let permuted = layers::permute(substituted);
+    layers::add_key(k, permuted)
+}

@@ -9,6 +9,7 @@ pub use size::Key144;
 pub use size::Key192;
 pub use size::KeySize;
 pub use size::is_key_length;
+pub use size::is_round_count;
 pub use size::size_of_key;
 pub use stage::add_stages;
 pub use stage::linear_step;

@@ -2,7 +2,7 @@
 
 ghost use mathlib.Core.Path.{_≡_};
 ghost use mathlib.Core.Bool.{true};
-ghost use Rattle.schedule.specs.Sizes.{keyLength, sizeFor, sizeOf};
+ghost use Rattle.schedule.specs.Sizes.{keyLength, sizeFor, sizeOf, roundsAllowed};
 
 // A row of the table of key sizes. A turn is as many stages as the key has bytes.
 pub struct KeySize {
@@ -98,4 +98,19 @@ pub fn size_of_key(n: usize) -> KeySize
         return Key144::size();
     }
     Key192::size()
+}
+
+// The table's row for a key of n bytes allows this many rounds.
+pub fn is_round_count(n: usize, rounds: u32) -> bool
+    requires { ⌜ keyLength n ≡ true ⌝ }
+    ensures { λ r. ⌜ r ≡ roundsAllowed n rounds ⌝ }
+{
+    let size = size_of_key(n);
+    let least = size.least;
+    let most = size.most;
+    let count = rounds as usize;
+    if count < least {
+        return false;
+    }
+    count <= most
 }

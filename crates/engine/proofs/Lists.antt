@@ -11,9 +11,9 @@ use borrow.Author.Tests.{le-leb, lt-leb, leb-true, eqb-true}
 use Rattle.refusal.proofs.Tests.{and-first, and-second}
 use Rattle.layers.specs.State.{State}
 use Rattle.layers.specs.Layers.{added}
 use Rattle.rounds.specs.Rounds.{round, lastRound, rounds, enciphered}
-use Rattle.rounds.specs.Engine.{stateOf, listStates, listLength}
+use Rattle.engine.specs.Engine.{stateOf, listStates, listLength}
 use Rattle.rounds.proofs.Turned.{length-listed, getD-listed}
 
 -- ---- the test of a list's length
 pub too-short : (n : ℕ) → n < 132 → false ≡ listLength n

@@ -7,11 +7,11 @@ use borrow.Author.Tests.{not-true, not-false, eq-eqb, ne-eqb, le-leb, lt-leb}
 use Rattle.refusal.proofs.Tries.{first-passes, first-holds, none-given}
 use Rattle.refusal.proofs.Answers.{refuses, succeeds}
 use Rattle.layers.specs.State.{State}
 use Rattle.rounds.specs.Rounds.{enciphered}
-use Rattle.rounds.specs.Engine.{bytesOf, listStates, engineTries, engineBlock}
+use Rattle.engine.specs.Engine.{bytesOf, listStates, engineTries, engineBlock}
 use borrow.Author.Needs.{needs}
-use Rattle.rounds.proofs.engine.run.Statement.{statement}
-use Rattle.rounds.proofs.engine.run.Tie as tie
+use Rattle.engine.proofs.enciphering.run.Statement.{statement}
+use Rattle.engine.proofs.enciphering.run.Tie as tie
 
 is-list-length-requires : tie.Need-is-list-length-requires
 is-list-length-requires c κs = search needs

@@ -2,8 +2,8 @@ use mathlib.Core.Path.{ap, _∙_}
 use Rattle.layers.specs.Layers.{permuted, added}
 use Rattle.rounds.specs.Rounds.{lastRound}
 use borrow.Author.Needs.{needs}
-use Rattle.rounds.proofs.round.last_round.Statement.{statement}
-use Rattle.rounds.proofs.round.last_round.Tie as tie
+use Rattle.rounds.proofs.last_round.Statement.{statement}
+use Rattle.rounds.proofs.last_round.Tie as tie
 
 substitute-requires : tie.Need-substitute-requires
 substitute-requires c κs = search needs

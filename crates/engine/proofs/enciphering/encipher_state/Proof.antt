@@ -9,12 +9,12 @@ use lib.Seq.{length-take-le}
 use mathlib.Core.List.{[]}
 use Rattle.layers.specs.State.{State}
 use Rattle.layers.specs.Layers.{added}
 use Rattle.rounds.specs.Rounds.{round, lastRound, rounds}
-use Rattle.rounds.specs.Engine.{stateOf, listStates}
-use Rattle.rounds.proofs.Lists.{whole, length-states, state-at, round-on, round-last, whitened}
+use Rattle.engine.specs.Engine.{stateOf, listStates}
+use Rattle.engine.proofs.Lists.{whole, length-states, state-at, round-on, round-last, whitened}
 use borrow.Author.Needs.{needs}
-use Rattle.rounds.proofs.engine.encipher_state.Statement.{statement}
-use Rattle.rounds.proofs.engine.encipher_state.Tie as tie
+use Rattle.engine.proofs.enciphering.encipher_state.Statement.{statement}
+use Rattle.engine.proofs.enciphering.encipher_state.Tie as tie
 
 abbrev Inv-loop : tie.InvT-loop
 Inv-loop list n state₀ r₀ state r =

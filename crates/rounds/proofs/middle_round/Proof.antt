@@ -2,8 +2,8 @@ use mathlib.Core.Path.{ap, _∙_}
 use Rattle.layers.specs.Layers.{permuted, diffused, added}
 use Rattle.rounds.specs.Rounds.{round}
 use borrow.Author.Needs.{needs}
-use Rattle.rounds.proofs.round.middle_round.Statement.{statement}
-use Rattle.rounds.proofs.round.middle_round.Tie as tie
+use Rattle.rounds.proofs.middle_round.Statement.{statement}
+use Rattle.rounds.proofs.middle_round.Tie as tie
 
 substitute-requires : tie.Need-substitute-requires
 substitute-requires c κs = search needs

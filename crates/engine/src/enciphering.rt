@@ -5,12 +5,10 @@ ghost use mathlib.Core.Bool.{true};
 ghost use lib.ListN.{length};
 ghost use Rattle.refusal.specs.Reasons.{outcomeNumber};
 ghost use Rattle.refusal.specs.Tries.{first, written};
 ghost use Rattle.rounds.specs.Rounds.{enciphered};
-ghost use Rattle.rounds.specs.Engine.{listStates, listLength, engineTries, engineBlock};
+ghost use Rattle.engine.specs.Engine.{listStates, listLength, engineTries, engineBlock};
 use crate::bytes::state_of;
 use crate::bytes::write_state;
-use crate::round::last_round;
-use crate::round::middle_round;
 use refusal::Outcome;
 use refusal::Reason;
 
@@ -27,7 +25,7 @@ fn is_list_length(n: usize) -> bool
 }
 
 // The rounds under all subkeys of a list.
-fn encipher_state(list: &[u8], a: [[u8; 3]; 4]) -> [[u8; 3]; 4]
+pub fn encipher_state(list: &[u8], a: [[u8; 3]; 4]) -> [[u8; 3]; 4]
     requires { ⌜ listLength (length (now list)) ≡ true ⌝ }
     ensures { λ r. ⌜ r ≡ enciphered (listStates (now (list .entry))) a ⌝ }
 {
@@ -37,12 +35,12 @@ fn encipher_state(list: &[u8], a: [[u8; 3]; 4]) -> [[u8; 3]; 4]
     while r + 1 < n {
         let at = 12 * r;
         let k = state_of(&list[at..at + 12]);
-        let next = middle_round(k, state);
+        let next = rounds::middle_round(k, state);
         state = next;
         r += 1;
     }
     let at = 12 * r;
-    last_round(state_of(&list[at..at + 12]), state)
+    rounds::last_round(state_of(&list[at..at + 12]), state)
 }
 
 // Enciphers a block under a lent list of 11 to 24 subkeys.
