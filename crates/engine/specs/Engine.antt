@@ -2,7 +2,7 @@
 -- subkeys, twelve bytes each, one after the other.
 use mathlib.Core.Bool.{Bool, _&&_}
 use mathlib.Core.List.{List, [], _∷_, _++_}
-use Prim.Native.Nat.{ℕ, _+_, _*_, _/_, _%_}
+use Prim.Native.Nat.{ℕ, _+_, _*_, _/_, _%_, _<_}
 use lib.Dec.{eqb, leb}
 use lib.ListN.{length, getD, take, drop}
 use Rattle.refusal.specs.Tries.{Try, _unless_}
@@ -41,3 +41,7 @@ engineTries list block out =
 -- the block that the engine gives
 unfoldable pub engineBlock : List ℕ → List ℕ → List ℕ
 engineBlock list block = bytesOf (enciphered (listStates list) (stateOf block))
+
+-- every number of a list is a byte
+abbrev pub AreBytes : List ℕ → Type 0
+AreBytes xs = (i : ℕ) → getD xs i 0 < 256
