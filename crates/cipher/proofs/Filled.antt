@@ -59,7 +59,6 @@ front-next key out₀ out s k ek eo =
     ∙ sym (append-assoc l (bytesOf k) (drop (n + 12) out₀))
     ∙ ap₂ (λ (x : List ℕ) (m : ℕ). x ++ drop m out₀) (ap (λ (k : State). l ++ bytesOf k) ek ∙ sym (more key s)) e
 
-
 -- what stands behind the list is what stood there before the first subkey was written
 past : (b out : List ℕ) (s : ℕ) → length b ≡ 12 → drop (12 * (s + 1)) (b ++ drop 12 out) ≡ drop (12 * (s + 1)) out
 past b out s h =

@@ -1,3 +1,4 @@
 pub mod Keys
 pub mod Filled
 pub mod Turned
+pub mod Lists

@@ -13,7 +13,6 @@ ghost use Rattle.rounds.specs.Rounds.{turned};
 ghost use Rattle.engine.specs.Engine.{listBytes};
 ghost use Rattle.cipher.specs.Cipher.{subkeys, listFor, prepareTries, prepared};
 ghost use Rattle.cipher.specs.Sized.{Fits};
-
 use crate::Direction;
 use engine::write_state;
 use refusal::Outcome;
@@ -65,4 +64,34 @@ fn fill_turned(key: &[u8], rounds: usize, out: &mut [u8])
         let sub = turn_subkey(schedule::subkey(next), s, rounds);
         write_state(&mut out[at..], sub);
     }
+}
+
+// The list for a direction.
+pub fn fill_for(direction: Direction, key: &[u8], rounds: usize, out: &mut [u8])
+    requires { ⌜ Fits (length (now key)) rounds (length (now out)) ⌝ }
+    ensures { λ _. ⌜ now (out .exit) ≡ listBytes (listFor direction (now (key .entry)) rounds) ++ drop (12 * (rounds + 1)) (now (out .entry)) ⌝ }
+{
+    match direction {
+        Direction::Enciphering => fill(key, rounds, out),
+        Direction::Deciphering => fill_turned(key, rounds, out),
+    }
+}
+
+// Prepares the subkey list for a direction: 12(R + 1) bytes.
+pub fn prepare(key: &[u8], rounds: u32, direction: Direction, out: &mut [u8]) -> Outcome
+    ensures { λ r. ⌜ outcomeNumber r ≡ first (prepareTries (now (key .entry)) rounds (now (out .entry))) ⌝ }
+    ensures { λ _. ⌜ now (out .exit) ≡ written (first (prepareTries (now (key .entry)) rounds (now (out .entry)))) (prepared direction (now (key .entry)) rounds) (now (out .entry)) ⌝ }
+{
+    if !schedule::is_key_length(key.len()) {
+        return Outcome::Refused(Reason::KeyLength);
+    }
+    if !schedule::is_round_count(key.len(), rounds) {
+        return Outcome::Refused(Reason::RoundCount);
+    }
+    let count = rounds as usize;
+    if out.len() < 12 * (count + 1) {
+        return Outcome::Refused(Reason::OutputTooShort);
+    }
+    fill_for(direction, key, count, out);
+    Outcome::Done
 }

@@ -71,3 +71,15 @@ refill n k e = ext-getD 0 (fill n (cell k)) k (length-columns (cell k) 0 n ∙ s
 
 pub as-stage : (n : ℕ) (k : List ℕ) → length k ≡ 3 * n → ((p : ℕ) → getD k p 0 < 256) → IsStage n k
 as-stage n k e h = subst (IsStage n) (refill n k e) (filled (cell k) (λ i j. h (i + 3 * j)))
+
+-- every byte of a stage, and what stands for those past it, is a byte
+columns-byte : (j n : ℕ) (f : ℕ → ℕ → ℕ) → ((i m : ℕ) → f i m < 256) → (p : ℕ) → getD (columns j n f) p 0 < 256
+unfolding columns
+columns-byte j zero f h p = lit< tt
+columns-byte j (suc n) f h zero = h 0 j
+columns-byte j (suc n) f h (suc zero) = h 1 j
+columns-byte j (suc n) f h (suc (suc zero)) = h 2 j
+columns-byte j (suc n) f h (suc (suc (suc p))) = columns-byte (suc j) n f h p
+
+pub stage-byte : (n : ℕ) {k : List ℕ} → IsStage n k → (p : ℕ) → getD k p 0 < 256
+stage-byte n (filled f h) p = columns-byte 0 n f h p

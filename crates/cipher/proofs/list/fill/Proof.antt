@@ -36,9 +36,13 @@ loop-holds c =
     let key = now (c .before .before .before .before .before .before .before .before .args .key) in
     let out = now (c .before .before .before .before .before .before .before .before .args .out) in
     let h = c .before .before .before .before .before .before .before .before .pre .key in
-    let k = c .before .before .before .before .before .stage-of-key in
-    ((omega arith, refl), (k .ensures,
-    front-first key out _ (c .before .before .before .subkey .result) (selected key h 0 (k .result) _ (k .ensures) (c .before .before .before .subkey .ensures)) (c .before .before .write-state .ensures)))
+    let k = c .before .before .before .before .before .stage-of-key in (
+      (omega arith, refl),
+      (
+        k .ensures,
+        front-first key out _ (c .before .before .before .subkey .result) (selected key h 0 (k .result) _ (k .ensures) (c .before .before .before .subkey .ensures)) (c .before .before .write-state .ensures),
+      ),
+    )
 
 add-s : tie.Need-add-s Inv-loop μ-loop
 add-s c = search needs
@@ -77,10 +81,14 @@ loop-again c =
     let out = c .before .before .before .before .before .before .before .loop .out in
     let inv = c .before .before .before .before .before .before .before .loop .inv in
     let next = c .before .before .before .before .before .next-stage in
-    let ek = advanced key h s (c .before .before .before .before .before .before .before .loop .k) (next .result) (inv .1 .0) (next .ensures) in
-    ((omega arith, same-len-mid (12 * (s + 1)) (length out - 12 * (s + 1)) out (c .before .before .write-state2 .last .0) (c .before .before .write-state2 .kept .0) ∙ inv .0 .1), (ek,
-    part-written (12 * (s + 1)) out (bytesOf (c .before .before .before .subkey2 .result)) _ (omega arith) (c .before .before .write-state2 .ensures)
-    ∙ front-next key _ out s _ (selected key h (s + 1) (next .result) _ ek (c .before .before .before .subkey2 .ensures)) (inv .1 .1)))
+    let ek = advanced key h s (c .before .before .before .before .before .before .before .loop .k) (next .result) (inv .1 .0) (next .ensures) in (
+      (omega arith, same-len-mid (12 * (s + 1)) (length out - 12 * (s + 1)) out (c .before .before .write-state2 .last .0) (c .before .before .write-state2 .kept .0) ∙ inv .0 .1),
+      (
+        ek,
+        part-written (12 * (s + 1)) out (bytesOf (c .before .before .before .subkey2 .result)) _ (omega arith) (c .before .before .write-state2 .ensures)
+            ∙ front-next key _ out s _ (selected key h (s + 1) (next .result) _ ek (c .before .before .before .subkey2 .ensures)) (inv .1 .1),
+      ),
+    )
 
 same-length : tie.Need-same-length Inv-loop μ-loop
 same-length c = search needs

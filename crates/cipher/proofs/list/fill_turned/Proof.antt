@@ -59,9 +59,13 @@ loop-holds c =
     let room = c .before .before .before .before .before .before .before .before .pre .fits in
     let k = c .before .before .before .before .before .stage-of-key in
     let sub = c .before .before .before .subkey in
-    let p = part-written (12 * R) out (bytesOf (sub .result)) (c .before .before .write-state .last .0) (omega arith) (c .before .before .write-state .ensures) in
-    ((omega arith, refl), (k .ensures,
-    p ∙ back-first key R out (sub .result) room (selected key (c .before .before .before .before .before .before .before .before .pre .key) 0 (k .result) _ (k .ensures) (sub .ensures)) ∙ ap (back key R 0) (sym p)))
+    let p = part-written (12 * R) out (bytesOf (sub .result)) (c .before .before .write-state .last .0) (omega arith) (c .before .before .write-state .ensures) in (
+      (omega arith, refl),
+      (
+        k .ensures,
+        p ∙ back-first key R out (sub .result) room (selected key (c .before .before .before .before .before .before .before .before .pre .key) 0 (k .result) _ (k .ensures) (sub .ensures)) ∙ ap (back key R 0) (sym p),
+      ),
+    )
 
 add-s : tie.Need-add-s Inv-loop μ-loop
 add-s c = search needs
@@ -113,10 +117,14 @@ loop-again c =
     let sub = c .before .before .before .before .turn-subkey in
     let es = selected key h (s + 1) (next .result) _ ek (c .before .before .before .before .before .subkey2 .ensures) in
     let at = 12 * (R - (s + 1)) in
-    let l₀ = same-len-mid (12 * R) (length out₁ - 12 * R) out₁ (c .before .before .before .before .before .before .before .before .before .before .before .write-state .last .0) (c .before .before .before .before .before .before .before .before .before .before .before .write-state .kept .0) in
-    ((omega arith, same-len-mid at (length out - at) out (c .before .before .write-state2 .last .0) (c .before .before .write-state2 .kept .0) ∙ inv .0 .1), (ek,
-    part-written at out (bytesOf (sub .result)) _ (omega arith) (c .before .before .write-state2 .ensures)
-    ∙ back-next key R s _ out (sub .result) (omega arith) (omega (arith, l₀)) (sub .ensures ∙ ap (λ (k : State). cond (ltb (s + 1) R) (diffused k) k) es) (inv .1 .1)))
+    let l₀ = same-len-mid (12 * R) (length out₁ - 12 * R) out₁ (c .before .before .before .before .before .before .before .before .before .before .before .write-state .last .0) (c .before .before .before .before .before .before .before .before .before .before .before .write-state .kept .0) in (
+      (omega arith, same-len-mid at (length out - at) out (c .before .before .write-state2 .last .0) (c .before .before .write-state2 .kept .0) ∙ inv .0 .1),
+      (
+        ek,
+        part-written at out (bytesOf (sub .result)) _ (omega arith) (c .before .before .write-state2 .ensures)
+            ∙ back-next key R s _ out (sub .result) (omega arith) (omega (arith, l₀)) (sub .ensures ∙ ap (λ (k : State). cond (ltb (s + 1) R) (diffused k) k) es) (inv .1 .1),
+      ),
+    )
 
 same-length : tie.Need-same-length Inv-loop μ-loop
 same-length c = search needs
