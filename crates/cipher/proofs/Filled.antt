@@ -1,23 +1,16 @@
 -- A subkey list as it is filled: from the front with the subkeys, and from the back with the turned ones.
 use mathlib.Core.Path.{_≡_, refl, sym, ap, ap₂, _∙_}
-use mathlib.Core.Bool.{Bool, true, false, cond}
-use mathlib.Core.List.{List, [], _∷_, _++_, append-assoc, append-nil}
-use Prim.Native.Nat.{ℕ, suc, _+_, _-_, _*_, _≤_, _<_}
+use mathlib.Core.List.{List, [], _++_, append-assoc, append-nil}
+use Prim.Native.Nat.{ℕ, suc, _+_, _-_, _*_, _≤_}
 use native.Mathlib.Omega.{arith}
 use native.Mathlib.Numerals.{add-one}
-use lib.Dec.{ltb}
-use lib.ListN.{length, take, drop, getD, length-append, length-drop, drop-of-length-le}
-use lib.Seq.{take-at, drop-at, drop-drop, drop-append-add, take-all, take-append-le, take-take, length-take-le, drop-cons, drop-length}
-use borrow.Author.Tests.{lt-ltb, le-ltb}
+use lib.ListN.{length, take, drop, length-drop, drop-of-length-le}
+use lib.Seq.{take-at, drop-at, drop-drop, drop-append-add, take-all}
 use Rattle.layers.specs.State.{State}
-use Rattle.layers.specs.Layers.{diffused}
-use Rattle.rounds.specs.Rounds.{listedFrom, turned}
-use Rattle.rounds.proofs.Turned.{length-listed, getD-listed, turned-length, turned-first, turned-last, turned-inner}
+use Rattle.rounds.specs.Rounds.{listedFrom}
+use Rattle.rounds.proofs.Turned.{length-listed}
 use Rattle.engine.specs.Engine.{bytesOf, listBytes}
 use Rattle.engine.proofs.RoundTrip.{listed-snoc, length-bytes, bytes-snoc}
-use Rattle.schedule.specs.Columns.{padded}
-use Rattle.schedule.specs.Sizes.{sizeOf}
-use Rattle.schedule.specs.Stages.{stage}
 use Rattle.cipher.specs.Cipher.{subkey, subkeys}
 
 -- twelve bytes put at a place of a list, as the code lends the rest of the list from there on

@@ -1,15 +1,15 @@
 -- Keys of 12, 18 or 24 bytes, their stages in 24 bytes, and their subkeys.
 use mathlib.Core.Path.{_≡_, refl, sym, ap, _∙_, subst}
-use mathlib.Core.Bool.{Bool, true, false, _||_, false≢true}
+use mathlib.Core.Bool.{Bool, true, false, _||_}
 use mathlib.Core.List.{List}
-use Prim.Native.Nat.{ℕ, zero, suc, _+_, _*_, _≤_, _<_}
+use Prim.Native.Nat.{ℕ, zero, suc, _+_, _*_, _≤_}
 use native.Mathlib.Omega.{arith}
 use native.Mathlib.Numerals.{add-one}
 use lib.Dec.{eqb}
 use lib.ListN.{length}
 use borrow.Author.Tests.{eqb-true}
 use Rattle.layers.specs.State.{State}
-use Rattle.schedule.specs.Columns.{columns, fill, plus, padded, columnRule}
+use Rattle.schedule.specs.Columns.{plus, padded, columnRule}
 use Rattle.schedule.specs.Sizes.{Sized, keyLength, sizeOf}
 use Rattle.schedule.specs.Stages.{linearStep, constant, stage, subkeyOf}
 use Rattle.schedule.proofs.Columns.{length-columns}

@@ -2,3 +2,4 @@ pub mod Keys
 pub mod Filled
 pub mod Turned
 pub mod Lists
+pub mod Claims

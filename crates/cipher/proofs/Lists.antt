@@ -1,30 +1,30 @@
 -- A key's lists: their lengths, that they are lists of states, and that the engine accepts them.
-use mathlib.Core.Path.{_≡_, refl, sym, ap, ap₂, _∙_}
+use mathlib.Core.Path.{_≡_, sym, ap, ap₂, _∙_}
 use mathlib.Core.Bool.{Bool, true, _&&_}
 use mathlib.Core.List.{List, _++_}
 use Prim.Native.Nat.{ℕ, zero, suc, _+_, _-_, _*_, _%_, _≤_, _<_}
 use native.Mathlib.Omega.{arith}
 use native.Mathlib.Numerals.{add-one}
 use lib.Dec.{leb, eqb}
-use lib.ListN.{length, getD, take, drop}
+use lib.ListN.{length, take}
 use lib.Seq.{take-at}
 use borrow.Author.Tests.{leb-true, le-leb, eq-eqb}
 use Rattle.refusal.proofs.Tests.{and-first, and-second}
 use Rattle.sbox.specs.Sbox.{sbox}
 use Rattle.sbox.proofs.Laws.{sbox-small}
 use Rattle.layers.specs.State.{State, IsState, built}
-use Rattle.rounds.specs.Rounds.{turned, enciphered, AllStates}
+use Rattle.rounds.specs.Rounds.{enciphered, AllStates}
 use Rattle.rounds.proofs.Turned.{length-listed, turned-length, turned-states}
-use Rattle.engine.specs.Engine.{stateOf, bytesOf, listStates, listBytes, listLength, AreBytes}
+use Rattle.engine.specs.Engine.{listStates, listBytes, listLength, AreBytes}
 use Rattle.engine.proofs.RoundTrip.{length-bytes, list-bytes, listed-states}
 use Rattle.schedule.specs.Columns.{cell, IsStage}
 use Rattle.schedule.specs.Sizes.{keyLength, sizeOf, leastRounds, mostRounds, roundsAllowed}
-use Rattle.schedule.specs.Stages.{byRow, stage, subkeyOf}
+use Rattle.schedule.specs.Stages.{byRow, subkeyOf}
 use Rattle.schedule.proofs.Columns.{as-stage, stage-byte}
 use Rattle.schedule.proofs.Stages.{stage-stage}
 use Rattle.cipher.specs.declared.Direction.{Direction}
 use Rattle.cipher.specs.declared.Direction.the-variants.{Enciphering, Deciphering}
-use Rattle.cipher.specs.Cipher.{subkey, subkeys, listFor, prepared}
+use Rattle.cipher.specs.Cipher.{subkey, subkeys, listFor}
 use Rattle.cipher.specs.Sized.{Fits}
 use Rattle.cipher.proofs.Keys.{a-key}
 

@@ -2,18 +2,17 @@
 use mathlib.Core.Path.{_≡_, refl, sym, ap, ap₂, _∙_}
 use mathlib.Core.Logic.{inl, inr}
 use mathlib.Core.Bool.{Bool, cond}
-use mathlib.Core.List.{List, [], _∷_, _++_, append-assoc, append-nil}
+use mathlib.Core.List.{List, [], _++_, append-assoc, append-nil}
 use Prim.Native.Nat.{ℕ, suc, _+_, _-_, _*_, _≤_, _<_}
 use native.Mathlib.Nat.{eq-or-lt-of-le}
 use native.Mathlib.Omega.{arith}
-use native.Mathlib.Numerals.{add-one}
 use lib.Dec.{ltb}
 use lib.ListN.{length, take, drop, getD}
 use lib.Seq.{take-at, drop-at, drop-drop, take-append-le, take-take, length-take-le, drop-cons, drop-length}
 use borrow.Author.Tests.{lt-ltb, le-ltb}
 use Rattle.layers.specs.State.{State}
 use Rattle.layers.specs.Layers.{diffused}
-use Rattle.rounds.specs.Rounds.{listedFrom, turned}
+use Rattle.rounds.specs.Rounds.{turned}
 use Rattle.rounds.proofs.Turned.{length-listed, getD-listed, turned-length, turned-first, turned-last, turned-inner}
 use Rattle.engine.specs.Engine.{bytesOf, listBytes}
 use Rattle.cipher.specs.Cipher.{subkey, subkeys}

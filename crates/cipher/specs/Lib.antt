@@ -1,2 +1,3 @@
 pub mod Cipher
 pub mod Sized
+pub mod Claims

@@ -1,18 +1,18 @@
 -- A term of each type of specs/Claims.antt.
-use mathlib.Core.Path.{_≡_, ap, ap₂, _∙_, subst, sym}
-use mathlib.Core.Logic.{_⊎_, inl, inr}
+use mathlib.Core.Path.{ap, ap₂, _∙_, subst, sym}
+use mathlib.Core.Logic.{inl, inr}
 use mathlib.Core.List.{List}
-use Prim.Native.Nat.{ℕ, _+_, _*_, _/_, _≤_, _<_}
+use Prim.Native.Nat.{ℕ, _+_, _*_, _/_, _<_}
 use native.Mathlib.Omega.{arith}
-use lib.ListN.{length, getD, take, drop, List·getD-eq-default, length-take}
+use lib.ListN.{length, take, drop, List·getD-eq-default, length-take}
 use lib.Seq.{getD-take, getD-drop}
 use lib.Dec.{lit<}
 use Rattle.refusal.proofs.Tests.{below-or-not}
 use Rattle.layers.specs.State.{State}
-use Rattle.rounds.specs.Rounds.{listedFrom, turned, enciphered, AllStates}
+use Rattle.rounds.specs.Rounds.{turned, enciphered, AllStates}
 use Rattle.rounds.proofs.Turned.{turned-states}
 use Rattle.rounds.proofs.Restored.{restored, enciphered-state}
-use Rattle.engine.specs.Engine.{stateOf, bytesOf, listStates, listBytes, AreBytes, engineBlock}
+use Rattle.engine.specs.Engine.{stateOf, bytesOf, listStates, AreBytes, engineBlock}
 use Rattle.engine.specs.Claims.{BytesTellStates, StatesTellBytes, BytesTellLists, EngineRestores}
 use Rattle.engine.proofs.Lists.{whole, length-states}
 use Rattle.engine.proofs.RoundTrip.{state-bytes, bytes-state, list-bytes, block-state, listed-states}

@@ -1,11 +1,11 @@
 -- States and subkey lists as bytes, and back.
-use mathlib.Core.Path.{_≡_, refl, sym, ap, ap₂, _∙_}
+use mathlib.Core.Path.{_≡_, refl, sym, ap, _∙_}
 use mathlib.Core.List.{List, [], _∷_, _++_, append-assoc, append-nil}
-use Prim.Native.Nat.{ℕ, zero, suc, _+_, _*_, _/_, _≤_, _<_}
+use Prim.Native.Nat.{ℕ, zero, suc, _+_, _*_, _<_}
 use native.Mathlib.Nat.{not-suc-le-zero, le-of-suc-le-suc, add-zero}
 use native.Mathlib.Omega.{arith}
 use lib.ListN.{length, getD, take, drop, length-append}
-use lib.Seq.{ext-getD, take-at, drop-append-add, getD-take, getD-drop}
+use lib.Seq.{ext-getD, take-at, drop-append-add}
 use Rattle.layers.specs.State.{State, IsState, built}
 use Rattle.rounds.specs.Rounds.{listedFrom, AllStates}
 use Rattle.engine.specs.Engine.{stateOf, bytesOf, listStates, listBytes, AreBytes}

@@ -1,5 +1,4 @@
-use mathlib.Core.Path.{_≡_, sym, ap, _∙_}
-use mathlib.Core.Bool.{true}
+use mathlib.Core.Path.{sym, ap, _∙_}
 use mathlib.Core.List.{List, [], _++_}
 use Prim.Native.Nat.{ℕ, _+_, _*_}
 use native.Mathlib.Omega.{arith}
@@ -12,7 +11,6 @@ use Rattle.refusal.proofs.Answers.{refuses, succeeds}
 use Rattle.layers.specs.State.{State}
 use Rattle.rounds.specs.Rounds.{enciphered}
 use Rattle.engine.specs.Engine.{bytesOf, listStates, listLength}
-use Rattle.schedule.specs.Sizes.{keyLength, roundsAllowed}
 use Rattle.cipher.specs.Cipher.{listFor, cipherTries, cipherBlock}
 use Rattle.cipher.proofs.Lists.{allowed, fitting, accepted, read-back}
 use borrow.Author.Needs.{needs}
@@ -102,16 +100,17 @@ returns-5 c =
     let out = now (a .out) in
     let hk = sym (c .before .before .before .before .before .before .before .before .before .before .before .before .before .before .before .is-key-length .ensures) ∙ not-false _ (c .before .before .before .before .before .before .before .before .before .before .before .before .before .before .if1 .left) in
     let r = succeeds (cipherTries key R block out) (cipherBlock (a .direction) key R block) out
-      (first-passes _ _ hk ∙ first-passes _ _ (sym (c .before .before .before .before .before .before .before .before .before .before .before .before .before .is-round-count .ensures) ∙ not-false _ (c .before .before .before .before .before .before .before .before .before .before .before .before .if2 .left)) ∙ first-passes _ _ (eq-eqb _ _ (c .before .before .before .before .before .before .before .before .before .before .before .if3 .left)) ∙ first-passes _ _ (le-leb _ _ (c .before .before .before .before .before .before .before .before .before .before .if4 .left))
-      ∙ none-given [] tt) in
-    (r .0,
-    c .before .before .write-state .ensures
-    ∙ ap (λ (x : State). bytesOf x ++ drop 12 out)
-    (c .before .before .before .before .encipher-state .ensures
-    ∙ ap (λ (l : List ℕ). enciphered (listStates (take (12 * (R + 1)) l)) (c .before .before .before .before .before .state-of .result)) (c .before .before .before .before .before .before .before .before .fill-for .ensures)
-    ∙ read-back key hk (λ i. c .before .before .before .before .before .before .before .before .before .before .before .before .before .before .before .before .before .before .shared-slice-known .given i .fits) (a .direction) R _ (c .before .before .before .before .before .state-of .result)
-    ∙ ap (enciphered (listFor (a .direction) key R)) (c .before .before .before .before .before .state-of .ensures))
-    ∙ r .1)
+    (first-passes _ _ hk ∙ first-passes _ _ (sym (c .before .before .before .before .before .before .before .before .before .before .before .before .before .is-round-count .ensures) ∙ not-false _ (c .before .before .before .before .before .before .before .before .before .before .before .before .if2 .left)) ∙ first-passes _ _ (eq-eqb _ _ (c .before .before .before .before .before .before .before .before .before .before .before .if3 .left)) ∙ first-passes _ _ (le-leb _ _ (c .before .before .before .before .before .before .before .before .before .before .if4 .left))
+    ∙ none-given [] tt) in (
+      r .0,
+      c .before .before .write-state .ensures
+          ∙ ap (λ (x : State). bytesOf x ++ drop 12 out)
+          (c .before .before .before .before .encipher-state .ensures
+          ∙ ap (λ (l : List ℕ). enciphered (listStates (take (12 * (R + 1)) l)) (c .before .before .before .before .before .state-of .result)) (c .before .before .before .before .before .before .before .before .fill-for .ensures)
+          ∙ read-back key hk (λ i. c .before .before .before .before .before .before .before .before .before .before .before .before .before .before .before .before .before .before .shared-slice-known .given i .fits) (a .direction) R _ (c .before .before .before .before .before .state-of .result)
+          ∙ ap (enciphered (listFor (a .direction) key R)) (c .before .before .before .before .before .state-of .ensures))
+          ∙ r .1,
+    )
 
 pub run-block-spec : {M : Type 1} → statement M
 run-block-spec =

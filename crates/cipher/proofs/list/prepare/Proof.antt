@@ -1,15 +1,13 @@
-use mathlib.Core.Path.{_≡_, sym, ap, _∙_}
-use mathlib.Core.Bool.{true}
+use mathlib.Core.Path.{sym, ap, _∙_}
 use mathlib.Core.List.{[], _++_}
-use Prim.Native.Nat.{ℕ, _+_, _*_}
+use Prim.Native.Nat.{ℕ, _+_}
 use native.Mathlib.Omega.{arith}
 use denote.Ref.{now}
-use lib.ListN.{length, drop}
-use borrow.Author.Tests.{not-true, not-false, eq-eqb, ne-eqb, le-leb, lt-leb}
+use lib.ListN.{drop}
+use borrow.Author.Tests.{not-true, not-false, le-leb, lt-leb}
 use Rattle.refusal.proofs.Tries.{first-passes, first-holds, none-given}
 use Rattle.refusal.proofs.Answers.{refuses, succeeds}
 use Rattle.engine.specs.Engine.{listBytes}
-use Rattle.schedule.specs.Sizes.{keyLength, roundsAllowed}
 use Rattle.cipher.specs.Cipher.{listFor, prepareTries, prepared}
 use Rattle.cipher.proofs.Lists.{fitting, length-prepared}
 use borrow.Author.Needs.{needs}
@@ -60,7 +58,7 @@ returns-4 c =
     let out = now (a .out) in
     let l = listBytes (listFor (a .direction) key (a .rounds)) in
     let r = succeeds (prepareTries key (a .rounds) out) (prepared (a .direction) key (a .rounds)) out
-      (first-passes _ _ (sym (c .before .before .before .before .before .before .before .before .is-key-length .ensures) ∙ not-false _ (c .before .before .before .before .before .before .before .if1 .left)) ∙ first-passes _ _ (sym (c .before .before .before .before .before .before .is-round-count .ensures) ∙ not-false _ (c .before .before .before .before .before .if2 .left)) ∙ first-passes _ _ (le-leb _ _ (c .before .before .before .before .if3 .left)) ∙ none-given [] tt) in
+    (first-passes _ _ (sym (c .before .before .before .before .before .before .before .before .is-key-length .ensures) ∙ not-false _ (c .before .before .before .before .before .before .before .if1 .left)) ∙ first-passes _ _ (sym (c .before .before .before .before .before .before .is-round-count .ensures) ∙ not-false _ (c .before .before .before .before .before .if2 .left)) ∙ first-passes _ _ (le-leb _ _ (c .before .before .before .before .if3 .left)) ∙ none-given [] tt) in
     (r .0, c .before .before .fill-for .ensures ∙ ap (λ (n : ℕ). l ++ drop n out) (sym (length-prepared (a .direction) key (a .rounds))) ∙ r .1)
 
 pub prepare-spec : {M : Type 1} → statement M
