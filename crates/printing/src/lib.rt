@@ -63,3 +63,49 @@ pub fn space() {
 pub fn newline() {
     word(b"\n");
 }
+
+// Fills a slice from the generator; the answer is the generator's number after it.
+pub fn draw(x: u64, out: &mut [u8]) -> u64 {
+    let mut now = x;
+    let mut i: usize = 0;
+    while i < out.len() {
+        let drawn = next(now);
+        now = drawn;
+        out[i] = byte_of(drawn);
+        i += 1;
+    }
+    now
+}
+
+pub fn hex_bytes(bytes: &[u8]) {
+    let mut i: usize = 0;
+    while i < bytes.len() {
+        hex(bytes[i]);
+        i += 1;
+    }
+}
+
+pub fn decimal(n: u64) {
+    io::print_decimal(STDOUT_FILENO, n);
+}
+
+// Every byte of a slice from an index on is still the mark that was put there.
+pub fn all_marks(bytes: &[u8], from: usize, mark: u8) -> bool {
+    let mut i = from;
+    while i < bytes.len() {
+        if bytes[i] != mark {
+            return false;
+        }
+        i += 1;
+    }
+    true
+}
+
+// The first n bytes of a slice, or all of it where it has fewer.
+pub fn first(s: &[u8], n: usize) -> &[u8] {
+    if n <= s.len() { &s[0..n] } else { s }
+}
+
+pub fn first_mut(s: &mut [u8], n: usize) -> &mut [u8] {
+    if n <= s.len() { &mut s[0..n] } else { s }
+}
