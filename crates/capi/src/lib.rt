@@ -1,0 +1,54 @@
+// The C interface: the calls over numbers and byte slices. A slice is a pointer and a length. Each answers 0, or the number of the reason
+// for which it refuses.
+
+ghost use mathlib.Core.Path.{_≡_};
+ghost use Rattle.refusal.specs.Tries.{first, written};
+ghost use Rattle.engine.specs.Engine.{engineTries, engineBlock};
+ghost use Rattle.cipher.specs.Cipher.{cipherTries, cipherBlock, prepareTries, prepared};
+ghost use Rattle.cipher.specs.declared.Direction.the-variants.{Enciphering, Deciphering};
+use cipher::Direction;
+
+// Enciphers one block.
+#[no_mangle]
+pub extern "C" fn gordzila_encipher(key: &[u8], rounds: u32, block: &[u8], out: &mut [u8]) -> u32
+    ensures { λ r. ⌜ r ≡ first (cipherTries (now (key .entry)) rounds (now (block .entry)) (now (out .entry))) ⌝ }
+    ensures { λ _. ⌜ now (out .exit) ≡ written (first (cipherTries (now (key .entry)) rounds (now (block .entry)) (now (out .entry)))) (cipherBlock Enciphering (now (key .entry)) rounds (now (block .entry))) (now (out .entry)) ⌝ }
+{
+    refusal::outcome_number(cipher::encipher(key, rounds, block, out))
+}
+
+// Deciphers one block.
+#[no_mangle]
+pub extern "C" fn gordzila_decipher(key: &[u8], rounds: u32, block: &[u8], out: &mut [u8]) -> u32
+    ensures { λ r. ⌜ r ≡ first (cipherTries (now (key .entry)) rounds (now (block .entry)) (now (out .entry))) ⌝ }
+    ensures { λ _. ⌜ now (out .exit) ≡ written (first (cipherTries (now (key .entry)) rounds (now (block .entry)) (now (out .entry)))) (cipherBlock Deciphering (now (key .entry)) rounds (now (block .entry))) (now (out .entry)) ⌝ }
+{
+    refusal::outcome_number(cipher::decipher(key, rounds, block, out))
+}
+
+// Prepares the subkey list for enciphering.
+#[no_mangle]
+pub extern "C" fn gordzila_prepare_enciphering(key: &[u8], rounds: u32, out: &mut [u8]) -> u32
+    ensures { λ r. ⌜ r ≡ first (prepareTries (now (key .entry)) rounds (now (out .entry))) ⌝ }
+    ensures { λ _. ⌜ now (out .exit) ≡ written (first (prepareTries (now (key .entry)) rounds (now (out .entry)))) (prepared Enciphering (now (key .entry)) rounds) (now (out .entry)) ⌝ }
+{
+    refusal::outcome_number(cipher::prepare(key, rounds, Direction::Enciphering, out))
+}
+
+// Prepares the subkey list for deciphering.
+#[no_mangle]
+pub extern "C" fn gordzila_prepare_deciphering(key: &[u8], rounds: u32, out: &mut [u8]) -> u32
+    ensures { λ r. ⌜ r ≡ first (prepareTries (now (key .entry)) rounds (now (out .entry))) ⌝ }
+    ensures { λ _. ⌜ now (out .exit) ≡ written (first (prepareTries (now (key .entry)) rounds (now (out .entry)))) (prepared Deciphering (now (key .entry)) rounds) (now (out .entry)) ⌝ }
+{
+    refusal::outcome_number(cipher::prepare(key, rounds, Direction::Deciphering, out))
+}
+
+// Runs the engine over a lent subkey list.
+#[no_mangle]
+pub extern "C" fn gordzila_run(list: &[u8], block: &[u8], out: &mut [u8]) -> u32
+    ensures { λ r. ⌜ r ≡ first (engineTries (now (list .entry)) (now (block .entry)) (now (out .entry))) ⌝ }
+    ensures { λ _. ⌜ now (out .exit) ≡ written (first (engineTries (now (list .entry)) (now (block .entry)) (now (out .entry)))) (engineBlock (now (list .entry)) (now (block .entry))) (now (out .entry)) ⌝ }
+{
+    refusal::outcome_number(engine::run(list, block, out))
+}
