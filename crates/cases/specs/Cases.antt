@@ -1,15 +1,15 @@
 -- The worked cases of document 01, "Thirteen proved cases", as one list, in its order, and the claim over the list. What is given is
--- computed from the definitions that the contracts cite; what is expected is document 01's. Cases 12 and 13 join with the key stages
--- and the grant.
+-- computed from the definitions that the contracts cite; what is expected is document 01's. Case 13 joins with the grant.
 use mathlib.Core.Path.{_≡_}
 use mathlib.Core.List.{List, [], _∷_, _++_}
 use Prim.Native.Nat.{ℕ}
-use lib.ListN.{getD}
+use lib.ListN.{getD, replicate}
 use Rattle.field.specs.Field.{_⊕_, times, cubeRoot}
 use Rattle.sbox.specs.Sbox.{sbox}
 use Rattle.layers.specs.State.{State}
 use Rattle.layers.specs.Layers.{permuted, diffused}
 use Rattle.schedule.specs.Columns.{columnRule}
+use Rattle.schedule.specs.Stages.{stage}
 
 pub record Case : Type 0 where
   pub given : List ℕ
@@ -46,6 +46,7 @@ cases =
     ∷ (columnRule (cubeRoot ⊕ 0x01) 1 (0x1D ∷ 0x1C ∷ 0x1C ∷ []) is (0x01 ∷ 0x00 ∷ 0x00 ∷ []))
     ∷ (bytes (permuted counting)
     is (0x00 ∷ 0x04 ∷ 0x08 ∷ 0x03 ∷ 0x01 ∷ 0x0B ∷ 0x06 ∷ 0x0A ∷ 0x02 ∷ 0x09 ∷ 0x07 ∷ 0x05 ∷ []))
+    ∷ (stage 2 (replicate 12 0x00) 1 is (0xA9 ∷ 0x13 ∷ 0x13 ∷ 0x07 ∷ 0x53 ∷ 0x53 ∷ 0xCC ∷ 0xE3 ∷ 0xE3 ∷ 0x70 ∷ 0x04 ∷ 0x04 ∷ []))
     ∷ []
 
 -- what is given is what is expected, in every case of a list

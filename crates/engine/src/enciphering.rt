@@ -57,7 +57,8 @@ pub fn run(list: &[u8], block: &[u8], out: &mut [u8]) -> Outcome
     if out.len() < 12 {
         return Outcome::Refused(Reason::OutputTooShort);
     }
-    let enciphered = encipher_state(list, state_of(block));
+    let a = state_of(block);
+    let enciphered = encipher_state(list, a);
     write_state(out, enciphered);
     Outcome::Done
 }
