@@ -10,7 +10,7 @@ use lib.ListN.{length}
 use borrow.Author.Tests.{eqb-true}
 use Rattle.layers.specs.State.{State}
 use Rattle.schedule.specs.Columns.{plus, padded, columnRule}
-use Rattle.schedule.specs.Sizes.{Sized, keyLength, sizeOf}
+use Rattle.sizes.specs.Sizes.{Sized, keyLength, sizeOf}
 use Rattle.schedule.specs.Stages.{linearStep, constant, stage, subkeyOf}
 use Rattle.schedule.proofs.Columns.{length-columns}
 use Rattle.schedule.proofs.Padded.{padded-agrees, plus-agrees, subkey-agrees}

@@ -18,7 +18,7 @@ use Rattle.rounds.proofs.Turned.{length-listed, turned-length, turned-states}
 use Rattle.engine.specs.Engine.{listStates, listBytes, listLength, AreBytes}
 use Rattle.engine.proofs.RoundTrip.{length-bytes, list-bytes, listed-states}
 use Rattle.schedule.specs.Columns.{cell, IsStage}
-use Rattle.schedule.specs.Sizes.{keyLength, sizeOf, leastRounds, mostRounds, roundsAllowed}
+use Rattle.sizes.specs.Sizes.{keyLength, sizeOf, leastRounds, mostRounds, roundsAllowed}
 use Rattle.schedule.specs.Stages.{byRow, subkeyOf}
 use Rattle.schedule.proofs.Columns.{as-stage, stage-byte}
 use Rattle.schedule.proofs.Stages.{stage-stage}

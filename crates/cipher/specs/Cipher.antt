@@ -8,7 +8,7 @@ use Rattle.refusal.specs.Tries.{Try, _unless_}
 use Rattle.layers.specs.State.{State}
 use Rattle.rounds.specs.Rounds.{listedFrom, turned, enciphered}
 use Rattle.engine.specs.Engine.{stateOf, bytesOf, listBytes}
-use Rattle.schedule.specs.Sizes.{keyLength, sizeOf, roundsAllowed}
+use Rattle.sizes.specs.Sizes.{keyLength, sizeOf, roundsAllowed}
 use Rattle.schedule.specs.Stages.{stage, subkeyOf}
 use Rattle.cipher.specs.declared.Direction.{Direction}
 use Rattle.cipher.specs.declared.Direction.the-variants.{Enciphering, Deciphering}

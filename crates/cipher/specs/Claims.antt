@@ -6,7 +6,7 @@ use Prim.Native.Nat.{ℕ}
 use lib.ListN.{length}
 use Rattle.rounds.specs.Rounds.{turned}
 use Rattle.engine.specs.Engine.{listStates, engineBlock, AreBytes}
-use Rattle.schedule.specs.Sizes.{keyLength, roundsAllowed}
+use Rattle.sizes.specs.Sizes.{keyLength, roundsAllowed}
 use Rattle.cipher.specs.declared.Direction.{Direction}
 use Rattle.cipher.specs.declared.Direction.the-variants.{Enciphering, Deciphering}
 use Rattle.cipher.specs.Cipher.{subkeys, prepared, cipherBlock}

@@ -2,7 +2,7 @@
 use mathlib.Core.Path.{_≡_}
 use mathlib.Core.Bool.{true}
 use Prim.Native.Nat.{ℕ, _+_, _*_, _<_, _≤_}
-use Rattle.schedule.specs.Sizes.{keyLength}
+use Rattle.sizes.specs.Sizes.{keyLength}
 
 -- a key of n bytes, a number of rounds from 1 to 6t - 1, and room for the list
 pub record Fits (n rounds room : ℕ) : Type 0 where

@@ -15,10 +15,10 @@ fn run_block(direction: Direction, key: &[u8], rounds: u32, block: &[u8], out: &
     ensures { λ r. ⌜ outcomeNumber r ≡ first (cipherTries (now (key .entry)) rounds (now (block .entry)) (now (out .entry))) ⌝ }
     ensures { λ _. ⌜ now (out .exit) ≡ written (first (cipherTries (now (key .entry)) rounds (now (block .entry)) (now (out .entry)))) (cipherBlock direction (now (key .entry)) rounds (now (block .entry))) (now (out .entry)) ⌝ }
 {
-    if !schedule::is_key_length(key.len()) {
+    if !sizes::is_key_length(key.len()) {
         return Outcome::Refused(Reason::KeyLength);
     }
-    if !schedule::is_round_count(key.len(), rounds) {
+    if !sizes::is_round_count(key.len(), rounds) {
         return Outcome::Refused(Reason::RoundCount);
     }
     if block.len() != 12 {

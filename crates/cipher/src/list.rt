@@ -82,10 +82,10 @@ pub fn prepare(key: &[u8], rounds: u32, direction: Direction, out: &mut [u8]) ->
     ensures { λ r. ⌜ outcomeNumber r ≡ first (prepareTries (now (key .entry)) rounds (now (out .entry))) ⌝ }
     ensures { λ _. ⌜ now (out .exit) ≡ written (first (prepareTries (now (key .entry)) rounds (now (out .entry)))) (prepared direction (now (key .entry)) rounds) (now (out .entry)) ⌝ }
 {
-    if !schedule::is_key_length(key.len()) {
+    if !sizes::is_key_length(key.len()) {
         return Outcome::Refused(Reason::KeyLength);
     }
-    if !schedule::is_round_count(key.len(), rounds) {
+    if !sizes::is_round_count(key.len(), rounds) {
         return Outcome::Refused(Reason::RoundCount);
     }
     let count = rounds as usize;

@@ -6,7 +6,7 @@ use Prim.Native.Nat.{ℕ, zero, suc, _-_, _*_}
 use native.Mathlib.Omega.{arith}
 use Rattle.field.proofs.Addition.{zero-right}
 use Rattle.schedule.specs.Columns.{IsStage, filled, plus}
-use Rattle.schedule.specs.Sizes.{Sized}
+use Rattle.sizes.specs.Sizes.{Sized}
 use Rattle.schedule.specs.Stages.{linearStep, constant, stage, zeros, closingSum}
 use Rattle.schedule.proofs.Columns.{fill-path}
 use Rattle.schedule.proofs.Steps.{plus-fill, plus-stage, step-stage, step-plus, plus-assoc, plus-undone}

@@ -15,7 +15,7 @@ use Rattle.field.proofs.Addition.{assoc, comm, cancel, self, zero-right, exchan
 use Rattle.field.proofs.Linear.{same, agree-bytes, times-right}
 use Rattle.field.proofs.Multiplication.{times-zero}
 use Rattle.schedule.specs.Columns.{cell, columns, fill, IsStage, filled, columnRule}
-use Rattle.schedule.specs.Sizes.{Sized}
+use Rattle.sizes.specs.Sizes.{Sized}
 use Rattle.schedule.specs.Stages.{next, previous, byRow, moved, rotated, linearStep}
 use Rattle.schedule.proofs.Columns.{fill-path, cell-fill}
 use Rattle.period.specs.Repeated.{repeated}

@@ -5,7 +5,7 @@ use mathlib.Core.Logic.{_≢_}
 use mathlib.Core.List.{List}
 use Prim.Native.Nat.{ℕ, _-_, _*_, _<_}
 use Rattle.schedule.specs.Columns.{IsStage, plus}
-use Rattle.schedule.specs.Sizes.{Sized}
+use Rattle.sizes.specs.Sizes.{Sized}
 use Rattle.schedule.specs.Stages.{linearStep, stage, closingSum}
 use Rattle.period.specs.Repeated.{repeated}
 

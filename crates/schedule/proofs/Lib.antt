@@ -1,4 +1,3 @@
-pub mod Sizes
 pub mod Places
 pub mod Columns
 pub mod ColumnRule

@@ -3,7 +3,7 @@ use mathlib.Core.Path.{_≡_, sym, ap, _∙_}
 use Prim.Native.Nat.{ℕ, zero, suc, _+_, _-_, _*_, _%_, _≤_, _<_}
 use native.Mathlib.Nat.{mod-self, mod-eq-of-lt, add-mod-right}
 use native.Mathlib.Omega.{arith}
-use Rattle.schedule.specs.Sizes.{Sized}
+use Rattle.sizes.specs.Sizes.{Sized}
 use Rattle.schedule.specs.Stages.{next, previous}
 
 pub next-on : (n j : ℕ) → j + 1 < n → j + 1 ≡ next n j

@@ -1,4 +1,3 @@
 pub mod Columns
-pub mod Sizes
 pub mod Stages
 pub mod Claims

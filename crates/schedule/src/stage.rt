@@ -6,7 +6,8 @@ ghost use lib.ListN.{length};
 ghost use Rattle.sbox.specs.Sbox.{sbox};
 ghost use Rattle.schedule.specs.Columns.{cell, plus, padded};
 ghost use Rattle.schedule.specs.Stages.{next, previous, linearStep, constant, subkeyOf};
-ghost use Rattle.schedule.specs.Sizes.{Sized, Place};
+ghost use Rattle.sizes.specs.Sizes.{Sized};
+ghost use Rattle.schedule.specs.Columns.{Place};
 use crate::column::column_term;
 
 // The column after j around n columns.

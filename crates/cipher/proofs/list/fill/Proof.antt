@@ -6,7 +6,7 @@ use lib.ListN.{length}
 use borrow.Rule.Slice.PartMut.{same-len-mid}
 use Rattle.engine.specs.Engine.{bytesOf}
 use Rattle.schedule.specs.Columns.{padded}
-use Rattle.schedule.specs.Sizes.{sizeOf}
+use Rattle.sizes.specs.Sizes.{sizeOf}
 use Rattle.schedule.specs.Stages.{stage}
 use Rattle.cipher.proofs.Keys.{a-key, advanced, selected}
 use Rattle.cipher.proofs.Filled.{front, front-first, front-next, front-whole, part-written}

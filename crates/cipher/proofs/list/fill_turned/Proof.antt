@@ -13,7 +13,7 @@ use Rattle.rounds.specs.Rounds.{turned}
 use Rattle.engine.specs.Engine.{bytesOf, listBytes}
 use Rattle.cipher.specs.Cipher.{subkeys}
 use Rattle.schedule.specs.Columns.{padded}
-use Rattle.schedule.specs.Sizes.{sizeOf}
+use Rattle.sizes.specs.Sizes.{sizeOf}
 use Rattle.schedule.specs.Stages.{stage}
 use Rattle.cipher.proofs.Keys.{a-key, advanced, selected}
 use Rattle.cipher.proofs.Filled.{part-written}

@@ -2,7 +2,7 @@
 
 ghost use mathlib.Core.Path.{_≡_};
 ghost use mathlib.Core.Bool.{true};
-ghost use Rattle.schedule.specs.Sizes.{keyLength, sizeFor, sizeOf, roundsAllowed};
+ghost use Rattle.sizes.specs.Sizes.{keyLength, sizeFor, sizeOf, roundsAllowed};
 
 // A row of the table of key sizes. A turn is as many stages as the key has bytes.
 pub struct KeySize {

@@ -1,8 +1,8 @@
 use mathlib.Core.Path.{sym, ap}
-use Rattle.schedule.specs.Sizes.{keyLength}
-use Rattle.schedule.proofs.Sizes.{not-first}
-use Rattle.schedule.proofs.size.is_key_length.Statement.{statement}
-use Rattle.schedule.proofs.size.is_key_length.Tie as tie
+use Rattle.sizes.specs.Sizes.{keyLength}
+use Rattle.sizes.proofs.Laws.{not-first}
+use Rattle.sizes.proofs.is_key_length.Statement.{statement}
+use Rattle.sizes.proofs.is_key_length.Tie as tie
 
 returns : tie.Need-returns
 returns c = sym (ap keyLength (c .if1 .taken))

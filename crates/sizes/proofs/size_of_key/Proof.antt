@@ -1,10 +1,10 @@
 use mathlib.Core.Path.{sym, ap, _∙_}
 use Prim.Native.Nat.{ℕ}
-use Rattle.schedule.specs.Sizes.{sizeFor, sizeOf}
-use Rattle.schedule.proofs.Sizes.{the-last}
+use Rattle.sizes.specs.Sizes.{sizeFor, sizeOf}
+use Rattle.sizes.proofs.Laws.{the-last}
 use borrow.Author.Needs.{needs}
-use Rattle.schedule.proofs.size.size_of_key.Statement.{statement}
-use Rattle.schedule.proofs.size.size_of_key.Tie as tie
+use Rattle.sizes.proofs.size_of_key.Statement.{statement}
+use Rattle.sizes.proofs.size_of_key.Tie as tie
 
 size-requires : tie.Need-size-requires
 size-requires c κs = search needs

@@ -3,7 +3,7 @@ use mathlib.Core.Bool.{Bool, _&&_, _||_}
 use mathlib.Core.Path.{_≡_}
 use Prim.Native.Nat.{ℕ, _+_, _-_, _*_, _/_, _≤_, _<_}
 use lib.Dec.{eqb, leb}
-use Rattle.schedule.specs.declared.size.KeySize.{KeySize}
+use Rattle.sizes.specs.declared.KeySize.{KeySize}
 
 -- the number of stages after which the schedule comes home
 abbrev pub turn : ℕ → ℕ
@@ -36,8 +36,3 @@ roundsAllowed n rounds = leb (leastRounds (sizeOf n)) rounds && leb rounds (most
 pub record Sized (t : ℕ) : Type 0 where
   pub least : 2 ≤ t
   pub most : t ≤ 4
-
--- what the code knows of a column r that it computed: it is j, and one of n
-pub record Place (r j n : ℕ) : Type 0 where
-  pub is : r ≡ j
-  pub below : r < n

@@ -1,11 +1,11 @@
 use mathlib.Core.Path.{ap, _∙_}
 use native.Mathlib.Omega.{arith}
 use lib.Dec.{leb}
-use Rattle.schedule.specs.declared.size.KeySize.{KeySize}
-use Rattle.schedule.proofs.Sizes.{too-few, enough}
+use Rattle.sizes.specs.declared.KeySize.{KeySize}
+use Rattle.sizes.proofs.Laws.{too-few, enough}
 use borrow.Author.Needs.{needs}
-use Rattle.schedule.proofs.size.is_round_count.Statement.{statement}
-use Rattle.schedule.proofs.size.is_round_count.Tie as tie
+use Rattle.sizes.proofs.is_round_count.Statement.{statement}
+use Rattle.sizes.proofs.is_round_count.Tie as tie
 
 size-of-key-requires : tie.Need-size-of-key-requires
 size-of-key-requires c κs = search needs

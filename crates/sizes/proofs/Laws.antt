@@ -4,7 +4,7 @@ use mathlib.Core.Bool.{Bool, true, false, _&&_, _||_}
 use Prim.Native.Nat.{ℕ, _≤_, _<_}
 use lib.Dec.{leb, eqb}
 use borrow.Author.Tests.{eqb-true, ne-eqb, le-leb, lt-leb}
-use Rattle.schedule.specs.Sizes.{keyLength, sizeOf, leastRounds, mostRounds, roundsAllowed}
+use Rattle.sizes.specs.Sizes.{keyLength, sizeOf, leastRounds, mostRounds, roundsAllowed}
 
 -- the last of the three lengths
 pub the-last : (n : ℕ) → keyLength n ≡ true → (n ≡ 12 → ⊥) → (n ≡ 18 → ⊥) → n ≡ 24
