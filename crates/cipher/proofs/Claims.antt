@@ -9,8 +9,9 @@ use Rattle.rounds.specs.Rounds.{enciphered}
 use Rattle.rounds.specs.Claims.{RestoredByList}
 use Rattle.rounds.proofs.Restored.{restored, enciphered-state}
 use Rattle.rounds.proofs.Claims.{restored-by-list}
-use Rattle.engine.specs.Engine.{stateOf, bytesOf, engineBlock}
-use Rattle.engine.proofs.RoundTrip.{state-bytes, bytes-state, list-bytes, block-state}
+use Rattle.blocks.specs.Blocks.{stateOf, bytesOf}
+use Rattle.engine.specs.Engine.{engineBlock}
+use Rattle.blocks.proofs.RoundTrip.{state-bytes, bytes-state, list-bytes, block-state}
 use Rattle.cipher.specs.declared.Direction.{Direction}
 use Rattle.cipher.specs.declared.Direction.the-variants.{Enciphering, Deciphering}
 use Rattle.cipher.specs.Cipher.{listFor, prepared, cipherBlock}

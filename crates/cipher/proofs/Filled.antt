@@ -9,8 +9,8 @@ use lib.Seq.{take-at, drop-at, drop-drop, drop-append-add, take-all}
 use Rattle.layers.specs.State.{State}
 use Rattle.rounds.specs.Rounds.{listedFrom}
 use Rattle.rounds.proofs.Turned.{length-listed}
-use Rattle.engine.specs.Engine.{bytesOf, listBytes}
-use Rattle.engine.proofs.RoundTrip.{listed-snoc, length-bytes, bytes-snoc}
+use Rattle.blocks.specs.Blocks.{bytesOf, listBytes}
+use Rattle.blocks.proofs.RoundTrip.{listed-snoc, length-bytes, bytes-snoc}
 use Rattle.cipher.specs.Cipher.{subkey, subkeys}
 
 -- twelve bytes put at a place of a list, as the code lends the rest of the list from there on

@@ -15,8 +15,9 @@ use Rattle.sbox.proofs.Laws.{sbox-small}
 use Rattle.layers.specs.State.{State, IsState, built}
 use Rattle.rounds.specs.Rounds.{enciphered, AllStates}
 use Rattle.rounds.proofs.Turned.{length-listed, turned-length, turned-states}
-use Rattle.engine.specs.Engine.{listStates, listBytes, listLength, AreBytes}
-use Rattle.engine.proofs.RoundTrip.{length-bytes, list-bytes, listed-states}
+use Rattle.blocks.specs.Blocks.{listStates, listBytes, AreBytes}
+use Rattle.engine.specs.Engine.{listLength}
+use Rattle.blocks.proofs.RoundTrip.{length-bytes, list-bytes, listed-states}
 use Rattle.schedule.specs.Columns.{cell, IsStage}
 use Rattle.sizes.specs.Sizes.{keyLength, sizeOf, leastRounds, mostRounds, roundsAllowed}
 use Rattle.schedule.specs.Stages.{byRow, subkeyOf}

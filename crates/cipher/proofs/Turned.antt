@@ -14,7 +14,7 @@ use Rattle.layers.specs.State.{State}
 use Rattle.layers.specs.Layers.{diffused}
 use Rattle.rounds.specs.Rounds.{turned}
 use Rattle.rounds.proofs.Turned.{length-listed, getD-listed, turned-length, turned-first, turned-last, turned-inner}
-use Rattle.engine.specs.Engine.{bytesOf, listBytes}
+use Rattle.blocks.specs.Blocks.{bytesOf, listBytes}
 use Rattle.cipher.specs.Cipher.{subkey, subkeys}
 use Rattle.cipher.proofs.Filled.{overlaid}
 

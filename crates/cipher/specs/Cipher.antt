@@ -7,7 +7,7 @@ use lib.ListN.{length}
 use Rattle.refusal.specs.Tries.{Try, _unless_}
 use Rattle.layers.specs.State.{State}
 use Rattle.rounds.specs.Rounds.{listedFrom, turned, enciphered}
-use Rattle.engine.specs.Engine.{stateOf, bytesOf, listBytes}
+use Rattle.blocks.specs.Blocks.{stateOf, bytesOf, listBytes}
 use Rattle.sizes.specs.Sizes.{keyLength, sizeOf, roundsAllowed}
 use Rattle.schedule.specs.Stages.{stage, subkeyOf}
 use Rattle.cipher.specs.declared.Direction.{Direction}

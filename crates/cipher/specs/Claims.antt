@@ -5,7 +5,8 @@ use mathlib.Core.List.{List}
 use Prim.Native.Nat.{ℕ}
 use lib.ListN.{length}
 use Rattle.rounds.specs.Rounds.{turned}
-use Rattle.engine.specs.Engine.{listStates, engineBlock, AreBytes}
+use Rattle.blocks.specs.Blocks.{listStates, AreBytes}
+use Rattle.engine.specs.Engine.{engineBlock}
 use Rattle.sizes.specs.Sizes.{keyLength, roundsAllowed}
 use Rattle.cipher.specs.declared.Direction.{Direction}
 use Rattle.cipher.specs.declared.Direction.the-variants.{Enciphering, Deciphering}

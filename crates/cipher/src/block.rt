@@ -31,8 +31,8 @@ fn run_block(direction: Direction, key: &[u8], rounds: u32, block: &[u8], out: &
     let mut list = [0u8; 288];
     fill_for(direction, key, count, &mut list);
     let n = 12 * (count + 1);
-    let state = engine::encipher_state(&list[..n], engine::state_of(block));
-    engine::write_state(out, state);
+    let state = engine::encipher_state(&list[..n], blocks::state_of(block));
+    blocks::write_state(out, state);
     Outcome::Done
 }
 

@@ -10,11 +10,11 @@ ghost use Rattle.refusal.specs.Reasons.{outcomeNumber};
 ghost use Rattle.refusal.specs.Tries.{first, written};
 ghost use Rattle.layers.specs.Layers.{diffused};
 ghost use Rattle.rounds.specs.Rounds.{turned};
-ghost use Rattle.engine.specs.Engine.{listBytes};
+ghost use Rattle.blocks.specs.Blocks.{listBytes};
 ghost use Rattle.cipher.specs.Cipher.{subkeys, listFor, prepareTries, prepared};
 ghost use Rattle.cipher.specs.Sized.{Fits};
 use crate::Direction;
-use engine::write_state;
+use blocks::write_state;
 use refusal::Outcome;
 use refusal::Reason;
 

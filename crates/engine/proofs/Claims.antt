@@ -12,22 +12,12 @@ use Rattle.layers.specs.State.{State}
 use Rattle.rounds.specs.Rounds.{turned, enciphered, AllStates}
 use Rattle.rounds.proofs.Turned.{turned-states}
 use Rattle.rounds.proofs.Restored.{restored, enciphered-state}
-use Rattle.engine.specs.Engine.{stateOf, bytesOf, listStates, AreBytes, engineBlock}
-use Rattle.engine.specs.Claims.{BytesTellStates, StatesTellBytes, BytesTellLists, EngineRestores}
-use Rattle.engine.proofs.Lists.{whole, length-states}
-use Rattle.engine.proofs.RoundTrip.{state-bytes, bytes-state, list-bytes, block-state, listed-states}
-
-pub bytes-tell-states : BytesTellStates
-unfolding BytesTellStates
-bytes-tell-states a h = state-bytes h
-
-pub states-tell-bytes : StatesTellBytes
-unfolding StatesTellBytes
-states-tell-bytes = bytes-state
-
-pub bytes-tell-lists : BytesTellLists
-unfolding BytesTellLists
-bytes-tell-lists = list-bytes
+use Rattle.blocks.specs.Blocks.{stateOf, bytesOf, listStates, AreBytes}
+use Rattle.engine.specs.Engine.{engineBlock}
+use Rattle.engine.specs.Claims.{EngineRestores}
+use Rattle.blocks.proofs.Lists.{length-states}
+use Rattle.engine.proofs.Lists.{whole}
+use Rattle.blocks.proofs.RoundTrip.{state-bytes, bytes-state, list-bytes, block-state, listed-states}
 
 -- a part of bytes is bytes
 part-bytes : (n m : ℕ) (xs : List ℕ) → AreBytes xs → AreBytes (take n (drop m xs))

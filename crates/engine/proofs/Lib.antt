@@ -1,3 +1,2 @@
 pub mod Lists
-pub mod RoundTrip
 pub mod Claims

@@ -2,18 +2,17 @@
 use mathlib.Core.Path.{_≡_, refl, sym, ap, ap₂, _∙_}
 use mathlib.Core.Bool.{Bool, true, false, _&&_}
 use mathlib.Core.List.{List, [], _∷_}
-use Prim.Native.Nat.{ℕ, suc, _*_, _/_, _%_, _≤_, _<_}
+use Prim.Native.Nat.{ℕ, suc, _%_, _≤_, _<_}
 use native.Mathlib.Omega.{arith}
 use lib.Dec.{leb, eqb}
-use lib.ListN.{length, getD, take, drop}
+use lib.ListN.{length, getD, drop}
 use lib.Seq.{drop-cons, drop-length}
 use borrow.Author.Tests.{le-leb, lt-leb, leb-true, eqb-true}
 use Rattle.refusal.proofs.Tests.{and-first, and-second}
 use Rattle.layers.specs.State.{State}
 use Rattle.layers.specs.Layers.{added}
 use Rattle.rounds.specs.Rounds.{round, lastRound, rounds, enciphered}
-use Rattle.engine.specs.Engine.{stateOf, listStates, listLength}
-use Rattle.rounds.proofs.Turned.{length-listed, getD-listed}
+use Rattle.engine.specs.Engine.{listLength}
 
 -- ---- the test of a list's length
 pub too-short : (n : ℕ) → n < 132 → false ≡ listLength n
@@ -39,15 +38,6 @@ whole n e =
       most = leb-true n 288 (and-first (leb n 288) (eqb (n % 12) 0) later);
       twelves = eqb-true (n % 12) 0 (and-second (leb n 288) (eqb (n % 12) 0) later);
     }
-
--- ---- the subkeys of a lent list
-pub length-states : (bytes : List ℕ) → length (listStates bytes) ≡ length bytes / 12
-unfolding listStates
-length-states bytes = length-listed (length bytes / 12) (λ r. stateOf (take 12 (drop (12 * r) bytes)))
-
-pub state-at : (bytes : List ℕ) (r : ℕ) → r < length bytes / 12 → getD (listStates bytes) r [] ≡ stateOf (take 12 (drop (12 * r) bytes))
-unfolding listStates
-state-at bytes r h = getD-listed [] (length bytes / 12) (λ r. stateOf (take 12 (drop (12 * r) bytes))) r h
 
 -- ---- the rounds from subkey r on
 module _ (ks : List State) (r : ℕ) (a : State) where

@@ -10,7 +10,8 @@ use Rattle.refusal.proofs.Tries.{first-passes, first-holds, none-given}
 use Rattle.refusal.proofs.Answers.{refuses, succeeds}
 use Rattle.layers.specs.State.{State}
 use Rattle.rounds.specs.Rounds.{enciphered}
-use Rattle.engine.specs.Engine.{bytesOf, listStates, listLength}
+use Rattle.blocks.specs.Blocks.{bytesOf, listStates}
+use Rattle.engine.specs.Engine.{listLength}
 use Rattle.cipher.specs.Cipher.{listFor, cipherTries, cipherBlock}
 use Rattle.cipher.proofs.Lists.{allowed, fitting, accepted, read-back}
 use borrow.Author.Needs.{needs}

@@ -3,7 +3,7 @@ use mathlib.Core.List.{_++_}
 use Prim.Native.Nat.{_+_, _*_}
 use denote.Ref.{now}
 use lib.ListN.{drop}
-use Rattle.engine.specs.Engine.{listBytes}
+use Rattle.blocks.specs.Blocks.{listBytes}
 use Rattle.cipher.specs.declared.Direction.{Direction}
 use Rattle.cipher.specs.Cipher.{listFor}
 use borrow.Author.Needs.{needs}

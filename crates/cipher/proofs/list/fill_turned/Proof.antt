@@ -10,7 +10,7 @@ use lib.Dec.{ltb}
 use Rattle.layers.specs.State.{State}
 use Rattle.layers.specs.Layers.{diffused}
 use Rattle.rounds.specs.Rounds.{turned}
-use Rattle.engine.specs.Engine.{bytesOf, listBytes}
+use Rattle.blocks.specs.Blocks.{bytesOf, listBytes}
 use Rattle.cipher.specs.Cipher.{subkeys}
 use Rattle.schedule.specs.Columns.{padded}
 use Rattle.sizes.specs.Sizes.{sizeOf}

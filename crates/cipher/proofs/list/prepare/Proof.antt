@@ -7,7 +7,7 @@ use lib.ListN.{drop}
 use borrow.Author.Tests.{not-true, not-false, le-leb, lt-leb}
 use Rattle.refusal.proofs.Tries.{first-passes, first-holds, none-given}
 use Rattle.refusal.proofs.Answers.{refuses, succeeds}
-use Rattle.engine.specs.Engine.{listBytes}
+use Rattle.blocks.specs.Blocks.{listBytes}
 use Rattle.cipher.specs.Cipher.{listFor, prepareTries, prepared}
 use Rattle.cipher.proofs.Lists.{fitting, length-prepared}
 use borrow.Author.Needs.{needs}

@@ -8,8 +8,8 @@ use lib.ListN.{length, getD, take, drop, length-append}
 use lib.Seq.{ext-getD, take-at, drop-append-add}
 use Rattle.layers.specs.State.{State, IsState, built}
 use Rattle.rounds.specs.Rounds.{listedFrom, AllStates}
-use Rattle.engine.specs.Engine.{stateOf, bytesOf, listStates, listBytes, AreBytes}
-use Rattle.engine.proofs.Lists.{length-states, state-at}
+use Rattle.blocks.specs.Blocks.{stateOf, bytesOf, listStates, listBytes, AreBytes}
+use Rattle.blocks.proofs.Lists.{length-states, state-at}
 
 -- ---- a state and its bytes
 pub state-bytes : {a : State} → IsState a → stateOf (bytesOf a) ≡ a

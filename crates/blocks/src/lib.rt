@@ -4,7 +4,7 @@ ghost use mathlib.Core.Path.{_≡_};
 ghost use mathlib.Core.List.{_++_};
 ghost use Prim.Native.Nat.{_≤_};
 ghost use lib.ListN.{length, drop};
-ghost use Rattle.engine.specs.Engine.{stateOf, bytesOf};
+ghost use Rattle.blocks.specs.Blocks.{stateOf, bytesOf};
 
 pub fn state_of(b: &[u8]) -> [[u8; 3]; 4]
     requires { ⌜ 12 ≤ length (now b) ⌝ }

@@ -1,6 +1,6 @@
 use Rattle.engine.proofs.Lists.{too-short, too-long, within}
-use Rattle.engine.proofs.enciphering.is_list_length.Statement.{statement}
-use Rattle.engine.proofs.enciphering.is_list_length.Tie as tie
+use Rattle.engine.proofs.is_list_length.Statement.{statement}
+use Rattle.engine.proofs.is_list_length.Tie as tie
 
 returns : tie.Need-returns
 returns c = too-short _ (c .if1 .taken)

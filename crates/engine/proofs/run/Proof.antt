@@ -8,10 +8,11 @@ use Rattle.refusal.proofs.Tries.{first-passes, first-holds, none-given}
 use Rattle.refusal.proofs.Answers.{refuses, succeeds}
 use Rattle.layers.specs.State.{State}
 use Rattle.rounds.specs.Rounds.{enciphered}
-use Rattle.engine.specs.Engine.{bytesOf, listStates, engineTries, engineBlock}
+use Rattle.blocks.specs.Blocks.{bytesOf, listStates}
+use Rattle.engine.specs.Engine.{engineTries, engineBlock}
 use borrow.Author.Needs.{needs}
-use Rattle.engine.proofs.enciphering.run.Statement.{statement}
-use Rattle.engine.proofs.enciphering.run.Tie as tie
+use Rattle.engine.proofs.run.Statement.{statement}
+use Rattle.engine.proofs.run.Tie as tie
 
 is-list-length-requires : tie.Need-is-list-length-requires
 is-list-length-requires c κs = search needs

@@ -10,11 +10,12 @@ use mathlib.Core.List.{[]}
 use Rattle.layers.specs.State.{State}
 use Rattle.layers.specs.Layers.{added}
 use Rattle.rounds.specs.Rounds.{round, lastRound, rounds}
-use Rattle.engine.specs.Engine.{stateOf, listStates}
-use Rattle.engine.proofs.Lists.{whole, length-states, state-at, round-on, round-last, whitened}
+use Rattle.blocks.specs.Blocks.{stateOf, listStates}
+use Rattle.blocks.proofs.Lists.{length-states, state-at}
+use Rattle.engine.proofs.Lists.{whole, round-on, round-last, whitened}
 use borrow.Author.Needs.{needs}
-use Rattle.engine.proofs.enciphering.encipher_state.Statement.{statement}
-use Rattle.engine.proofs.enciphering.encipher_state.Tie as tie
+use Rattle.engine.proofs.encipher_state.Statement.{statement}
+use Rattle.engine.proofs.encipher_state.Tie as tie
 
 abbrev Inv-loop : tie.InvT-loop
 Inv-loop list n state₀ r₀ state r =

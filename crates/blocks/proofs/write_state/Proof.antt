@@ -2,10 +2,10 @@ use native.Mathlib.Omega.{arith}
 use lib.ListN.{length-set}
 use lib.Seq.{sets-eq}
 use denote.Ref.{now}
-use Rattle.engine.specs.Engine.{bytesOf}
+use Rattle.blocks.specs.Blocks.{bytesOf}
 use borrow.Author.Needs.{needs}
-use Rattle.engine.proofs.bytes.write_state.Statement.{statement}
-use Rattle.engine.proofs.bytes.write_state.Tie as tie
+use Rattle.blocks.proofs.write_state.Statement.{statement}
+use Rattle.blocks.proofs.write_state.Tie as tie
 
 index-1-out : tie.Need-index-1-out
 index-1-out c = search needs
