@@ -4,9 +4,10 @@
 ghost use mathlib.Core.Path.{_≡_};
 ghost use Rattle.refusal.specs.Tries.{first, written};
 ghost use Rattle.engine.specs.Engine.{engineTries, engineBlock};
-ghost use Rattle.cipher.specs.Cipher.{cipherTries, cipherBlock, prepareTries, prepared};
-ghost use Rattle.cipher.specs.declared.Direction.the-variants.{Enciphering, Deciphering};
-use cipher::Direction;
+ghost use Rattle.cipher.specs.Cipher.{cipherTries, cipherBlock};
+ghost use Rattle.lists.specs.Lists.{prepareTries, prepared};
+ghost use Rattle.lists.specs.declared.Direction.the-variants.{Enciphering, Deciphering};
+use lists::Direction;
 
 // Enciphers one block.
 #[no_mangle]
@@ -32,7 +33,7 @@ pub extern "C" fn gordzila_prepare_enciphering(key: &[u8], rounds: u32, out: &mu
     ensures { λ r. ⌜ r ≡ first (prepareTries (now (key .entry)) rounds (now (out .entry))) ⌝ }
     ensures { λ _. ⌜ now (out .exit) ≡ written (first (prepareTries (now (key .entry)) rounds (now (out .entry)))) (prepared Enciphering (now (key .entry)) rounds) (now (out .entry)) ⌝ }
 {
-    refusal::outcome_number(cipher::prepare(key, rounds, Direction::Enciphering, out))
+    refusal::outcome_number(lists::prepare(key, rounds, Direction::Enciphering, out))
 }
 
 // Prepares the subkey list for deciphering.
@@ -41,7 +42,7 @@ pub extern "C" fn gordzila_prepare_deciphering(key: &[u8], rounds: u32, out: &mu
     ensures { λ r. ⌜ r ≡ first (prepareTries (now (key .entry)) rounds (now (out .entry))) ⌝ }
     ensures { λ _. ⌜ now (out .exit) ≡ written (first (prepareTries (now (key .entry)) rounds (now (out .entry)))) (prepared Deciphering (now (key .entry)) rounds) (now (out .entry)) ⌝ }
 {
-    refusal::outcome_number(cipher::prepare(key, rounds, Direction::Deciphering, out))
+    refusal::outcome_number(lists::prepare(key, rounds, Direction::Deciphering, out))
 }
 
 // Runs the engine over a lent subkey list.

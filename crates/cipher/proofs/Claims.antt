@@ -12,11 +12,13 @@ use Rattle.rounds.proofs.Claims.{restored-by-list}
 use Rattle.blocks.specs.Blocks.{stateOf, bytesOf}
 use Rattle.engine.specs.Engine.{engineBlock}
 use Rattle.blocks.proofs.RoundTrip.{state-bytes, bytes-state, list-bytes, block-state}
-use Rattle.cipher.specs.declared.Direction.{Direction}
-use Rattle.cipher.specs.declared.Direction.the-variants.{Enciphering, Deciphering}
-use Rattle.cipher.specs.Cipher.{listFor, prepared, cipherBlock}
-use Rattle.cipher.specs.Claims.{Settings, IsBlock, DeciphersWhatWasEnciphered, EnciphersWhatWasDeciphered, PreparedIsList, EngineRunsPrepared}
-use Rattle.cipher.proofs.Lists.{allowed, length-for, states-for}
+use Rattle.lists.specs.declared.Direction.{Direction}
+use Rattle.lists.specs.declared.Direction.the-variants.{Enciphering, Deciphering}
+use Rattle.lists.specs.Lists.{listFor, prepared}
+use Rattle.lists.specs.Claims.{Settings}
+use Rattle.cipher.specs.Cipher.{cipherBlock}
+use Rattle.cipher.specs.Claims.{IsBlock, DeciphersWhatWasEnciphered, EnciphersWhatWasDeciphered, EngineRunsPrepared}
+use Rattle.lists.proofs.Lists.{allowed, length-for, states-for}
 
 module _ (key : List ℕ) (rounds : ℕ) (s : Settings key rounds) where
   two : (d : Direction) → 2 ≤ length (listFor d key rounds)
@@ -45,13 +47,6 @@ enciphers-what-was-deciphered key rounds block s b =
     there-and-back key rounds s Deciphering Enciphering block b
     (restored-by-list (listFor Enciphering key rounds) (stateOf block) (two key rounds s Enciphering)
     (states-for key (s .length-allowed) (s .bytes) Enciphering rounds) (block-state block (b .bytes)))
-
-pub prepared-is-list : PreparedIsList
-unfolding PreparedIsList prepared listFor
-prepared-is-list key rounds s = (
-  list-bytes (listFor Enciphering key rounds) (states-for key (s .length-allowed) (s .bytes) Enciphering rounds),
-  list-bytes (listFor Deciphering key rounds) (states-for key (s .length-allowed) (s .bytes) Deciphering rounds),
-)
 
 pub engine-runs-prepared : EngineRunsPrepared
 unfolding EngineRunsPrepared engineBlock prepared cipherBlock

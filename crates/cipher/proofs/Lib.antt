@@ -1,5 +1,2 @@
-pub mod Keys
-pub mod Filled
-pub mod Turned
-pub mod Lists
+pub mod Accepted
 pub mod Claims

@@ -1,42 +1,15 @@
--- Subkey lists of a key, and the cipher's calls: document 01, "What the store calls", "Reasons found in the input" and its order line;
--- paper 000, sections 3.8 to 3.10.
+-- One block enciphered or deciphered: document 01, "What the store calls", "Reasons found in the input" and its order line; paper 000,
+-- sections 3.9 and 3.10.
 use mathlib.Core.List.{List, [], _∷_}
-use Prim.Native.Nat.{ℕ, suc, _+_, _*_}
+use Prim.Native.Nat.{ℕ}
 use lib.Dec.{eqb, leb}
 use lib.ListN.{length}
 use Rattle.refusal.specs.Tries.{Try, _unless_}
-use Rattle.layers.specs.State.{State}
-use Rattle.rounds.specs.Rounds.{listedFrom, turned, enciphered}
-use Rattle.blocks.specs.Blocks.{stateOf, bytesOf, listBytes}
-use Rattle.sizes.specs.Sizes.{keyLength, sizeOf, roundsAllowed}
-use Rattle.schedule.specs.Stages.{stage, subkeyOf}
-use Rattle.cipher.specs.declared.Direction.{Direction}
-use Rattle.cipher.specs.declared.Direction.the-variants.{Enciphering, Deciphering}
-
--- subkey s of a key
-abbrev pub subkey : List ℕ → ℕ → State
-subkey key s = subkeyOf (stage (sizeOf (length key)) key s)
-
--- subkeys 0 to R of a key
-unfoldable pub subkeys : List ℕ → ℕ → List State
-subkeys key R = listedFrom 0 (suc R) (subkey key)
-
--- the list for a direction: the subkeys for enciphering, their turned list for deciphering
-unfoldable pub listFor : Direction → List ℕ → ℕ → List State
-listFor Enciphering key R = subkeys key R
-listFor Deciphering key R = turned (subkeys key R)
-
--- the order of refusals of preparing a list. The direction is a choice of two and cannot be wrong
-abbrev pub prepareTries : List ℕ → ℕ → List ℕ → List Try
-prepareTries key rounds out =
-    (1 unless keyLength (length key))
-    ∷ (2 unless roundsAllowed (length key) rounds)
-    ∷ (4 unless leb (12 * (rounds + 1)) (length out))
-    ∷ []
-
--- the bytes of a prepared list
-unfoldable pub prepared : Direction → List ℕ → ℕ → List ℕ
-prepared d key rounds = listBytes (listFor d key rounds)
+use Rattle.rounds.specs.Rounds.{enciphered}
+use Rattle.blocks.specs.Blocks.{stateOf, bytesOf}
+use Rattle.sizes.specs.Sizes.{keyLength, roundsAllowed}
+use Rattle.lists.specs.declared.Direction.{Direction}
+use Rattle.lists.specs.Lists.{listFor}
 
 -- the order of refusals of enciphering and deciphering a block
 abbrev pub cipherTries : List ℕ → ℕ → List ℕ → List ℕ → List Try

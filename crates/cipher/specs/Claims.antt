@@ -1,22 +1,15 @@
 -- What is claimed of the cipher. A term of each type stands in proofs/Claims.antt.
-use mathlib.Core.Bool.{true}
 use mathlib.Core.Path.{_≡_}
 use mathlib.Core.List.{List}
 use Prim.Native.Nat.{ℕ}
 use lib.ListN.{length}
-use Rattle.rounds.specs.Rounds.{turned}
-use Rattle.blocks.specs.Blocks.{listStates, AreBytes}
+use Rattle.blocks.specs.Blocks.{AreBytes}
 use Rattle.engine.specs.Engine.{engineBlock}
-use Rattle.sizes.specs.Sizes.{keyLength, roundsAllowed}
-use Rattle.cipher.specs.declared.Direction.{Direction}
-use Rattle.cipher.specs.declared.Direction.the-variants.{Enciphering, Deciphering}
-use Rattle.cipher.specs.Cipher.{subkeys, prepared, cipherBlock}
-
--- a key and a round count that no call refuses
-pub record Settings (key : List ℕ) (rounds : ℕ) : Type 0 where
-  pub bytes : AreBytes key
-  pub length-allowed : keyLength (length key) ≡ true
-  pub rounds-allowed : roundsAllowed (length key) rounds ≡ true
+use Rattle.lists.specs.declared.Direction.{Direction}
+use Rattle.lists.specs.declared.Direction.the-variants.{Enciphering, Deciphering}
+use Rattle.lists.specs.Lists.{prepared}
+use Rattle.lists.specs.Claims.{Settings}
+use Rattle.cipher.specs.Cipher.{cipherBlock}
 
 -- a block that no call refuses
 pub record IsBlock (block : List ℕ) : Type 0 where
@@ -31,11 +24,6 @@ DeciphersWhatWasEnciphered = (key : List ℕ) (rounds : ℕ) (block : List ℕ) 
 unfoldable pub EnciphersWhatWasDeciphered : Type 0
 EnciphersWhatWasDeciphered = (key : List ℕ) (rounds : ℕ) (block : List ℕ) → Settings key rounds → IsBlock block
     → cipherBlock Enciphering key rounds (cipherBlock Deciphering key rounds block) ≡ block
-
--- a list prepared for enciphering is read as subkeys 0 to R of the key's stages, one prepared for deciphering as their turned list
-unfoldable pub PreparedIsList : Type 0
-PreparedIsList = (key : List ℕ) (rounds : ℕ) → Settings key rounds
-    → (listStates (prepared Enciphering key rounds) ≡ subkeys key rounds) × (listStates (prepared Deciphering key rounds) ≡ turned (subkeys key rounds))
 
 -- the engine over a prepared list gives what enciphering or deciphering gives
 unfoldable pub EngineRunsPrepared : Type 0

@@ -1,7 +1,7 @@
 // Prints, for lengths and counts on both sides of every limit, what each call of the cipher answers and whether every byte that it must
 // leave alone was left alone: all of the output where it refuses, and what lies past the written bytes where it does not.
 
-use cipher::Direction;
+use lists::Direction;
 use refusal::Outcome;
 
 const MARK: u8 = 165;
@@ -76,7 +76,7 @@ fn prepare_case(direction: Direction, k: usize, r: u32, o: usize) {
     let key = [7u8; 32];
     let mut out = [MARK; 320];
     numbers(b"prepare ", k as u64, r as u64, o as u64);
-    let outcome = cipher::prepare(
+    let outcome = lists::prepare(
         printing::first(&key, k),
         r,
         direction,

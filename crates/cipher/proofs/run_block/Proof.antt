@@ -12,11 +12,13 @@ use Rattle.layers.specs.State.{State}
 use Rattle.rounds.specs.Rounds.{enciphered}
 use Rattle.blocks.specs.Blocks.{bytesOf, listStates}
 use Rattle.engine.specs.Engine.{listLength}
-use Rattle.cipher.specs.Cipher.{listFor, cipherTries, cipherBlock}
-use Rattle.cipher.proofs.Lists.{allowed, fitting, accepted, read-back}
+use Rattle.lists.specs.Lists.{listFor}
+use Rattle.cipher.specs.Cipher.{cipherTries, cipherBlock}
+use Rattle.cipher.proofs.Accepted.{accepted}
+use Rattle.lists.proofs.Lists.{allowed, fitting, read-back}
 use borrow.Author.Needs.{needs}
-use Rattle.cipher.proofs.block.run_block.Statement.{statement}
-use Rattle.cipher.proofs.block.run_block.Tie as tie
+use Rattle.cipher.proofs.run_block.Statement.{statement}
+use Rattle.cipher.proofs.run_block.Tie as tie
 
 is-key-length-requires : tie.Need-is-key-length-requires
 is-key-length-requires c κs = search needs

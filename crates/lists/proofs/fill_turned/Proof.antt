@@ -11,16 +11,16 @@ use Rattle.layers.specs.State.{State}
 use Rattle.layers.specs.Layers.{diffused}
 use Rattle.rounds.specs.Rounds.{turned}
 use Rattle.blocks.specs.Blocks.{bytesOf, listBytes}
-use Rattle.cipher.specs.Cipher.{subkeys}
+use Rattle.lists.specs.Lists.{subkeys}
 use Rattle.schedule.specs.Columns.{padded}
 use Rattle.sizes.specs.Sizes.{sizeOf}
 use Rattle.schedule.specs.Stages.{stage}
-use Rattle.cipher.proofs.Keys.{a-key, advanced, selected}
-use Rattle.cipher.proofs.Filled.{part-written}
-use Rattle.cipher.proofs.Turned.{back, first-drop, back-first, back-next, back-whole}
+use Rattle.lists.proofs.Keys.{a-key, advanced, selected}
+use Rattle.lists.proofs.Filled.{part-written}
+use Rattle.lists.proofs.Turned.{back, first-drop, back-first, back-next, back-whole}
 use borrow.Author.Needs.{needs}
-use Rattle.cipher.proofs.list.fill_turned.Statement.{statement}
-use Rattle.cipher.proofs.list.fill_turned.Tie as tie
+use Rattle.lists.proofs.fill_turned.Statement.{statement}
+use Rattle.lists.proofs.fill_turned.Tie as tie
 
 abbrev Inv-loop : tie.InvT-loop
 Inv-loop key rounds out₀ t k₀ last s₀ out k s =

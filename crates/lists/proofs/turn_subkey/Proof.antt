@@ -3,8 +3,8 @@ use mathlib.Core.Bool.{Bool, cond}
 use borrow.Author.Tests.{lt-ltb, le-ltb}
 use Rattle.layers.specs.Layers.{diffused}
 use borrow.Author.Needs.{needs}
-use Rattle.cipher.proofs.list.turn_subkey.Statement.{statement}
-use Rattle.cipher.proofs.list.turn_subkey.Tie as tie
+use Rattle.lists.proofs.turn_subkey.Statement.{statement}
+use Rattle.lists.proofs.turn_subkey.Tie as tie
 
 diffuse-requires : tie.Need-diffuse-requires
 diffuse-requires c κs = search needs

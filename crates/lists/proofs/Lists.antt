@@ -1,14 +1,14 @@
 -- A key's lists: their lengths, that they are lists of states, and that the engine accepts them.
-use mathlib.Core.Path.{_≡_, sym, ap, ap₂, _∙_}
-use mathlib.Core.Bool.{Bool, true, _&&_}
+use mathlib.Core.Path.{_≡_, sym, ap, _∙_}
+use mathlib.Core.Bool.{true}
 use mathlib.Core.List.{List, _++_}
-use Prim.Native.Nat.{ℕ, zero, suc, _+_, _-_, _*_, _%_, _≤_, _<_}
+use Prim.Native.Nat.{ℕ, zero, suc, _+_, _-_, _*_, _≤_, _<_}
 use native.Mathlib.Omega.{arith}
 use native.Mathlib.Numerals.{add-one}
-use lib.Dec.{leb, eqb}
+use lib.Dec.{leb}
 use lib.ListN.{length, take}
 use lib.Seq.{take-at}
-use borrow.Author.Tests.{leb-true, le-leb, eq-eqb}
+use borrow.Author.Tests.{leb-true}
 use Rattle.refusal.proofs.Tests.{and-first, and-second}
 use Rattle.sbox.specs.Sbox.{sbox}
 use Rattle.sbox.proofs.Laws.{sbox-small}
@@ -16,18 +16,17 @@ use Rattle.layers.specs.State.{State, IsState, built}
 use Rattle.rounds.specs.Rounds.{enciphered, AllStates}
 use Rattle.rounds.proofs.Turned.{length-listed, turned-length, turned-states}
 use Rattle.blocks.specs.Blocks.{listStates, listBytes, AreBytes}
-use Rattle.engine.specs.Engine.{listLength}
 use Rattle.blocks.proofs.RoundTrip.{length-bytes, list-bytes, listed-states}
 use Rattle.schedule.specs.Columns.{cell, IsStage}
 use Rattle.sizes.specs.Sizes.{keyLength, sizeOf, leastRounds, mostRounds, roundsAllowed}
 use Rattle.schedule.specs.Stages.{byRow, subkeyOf}
 use Rattle.schedule.proofs.Columns.{as-stage, stage-byte}
 use Rattle.schedule.proofs.Stages.{stage-stage}
-use Rattle.cipher.specs.declared.Direction.{Direction}
-use Rattle.cipher.specs.declared.Direction.the-variants.{Enciphering, Deciphering}
-use Rattle.cipher.specs.Cipher.{subkey, subkeys, listFor}
-use Rattle.cipher.specs.Sized.{Fits}
-use Rattle.cipher.proofs.Keys.{a-key}
+use Rattle.lists.specs.declared.Direction.{Direction}
+use Rattle.lists.specs.declared.Direction.the-variants.{Enciphering, Deciphering}
+use Rattle.lists.specs.Lists.{subkey, subkeys, listFor}
+use Rattle.lists.specs.Sized.{Fits}
+use Rattle.lists.proofs.Keys.{a-key}
 
 -- ---- what allowed settings say
 pub record Allowed (n rounds : ℕ) : Type 0 where
@@ -44,11 +43,6 @@ allowed n rounds h e =
 
 pub fitting : (n rounds room : ℕ) → keyLength n ≡ true → roundsAllowed n rounds ≡ true → 12 * (rounds + 1) ≤ room → Fits n rounds room
 fitting n rounds room h e f = let a = allowed n rounds h e in record { key = h; some = omega arith; most = a .most; fits = f }
-
-pub accepted : (rounds : ℕ) → 10 ≤ rounds → rounds ≤ 23 → listLength (12 * (rounds + 1)) ≡ true
-accepted rounds l h =
-    ap₂ (λ (a b : Bool). a && (b && eqb (12 * (rounds + 1) % 12) 0)) (le-leb 132 (12 * (rounds + 1)) (omega arith)) (le-leb (12 * (rounds + 1)) 288 (omega arith))
-    ∙ eq-eqb (12 * (rounds + 1) % 12) 0 (omega arith)
 
 -- ---- lengths
 length-subkeys : (key : List ℕ) (R : ℕ) → length (subkeys key R) ≡ suc R

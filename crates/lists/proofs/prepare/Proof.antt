@@ -8,11 +8,11 @@ use borrow.Author.Tests.{not-true, not-false, le-leb, lt-leb}
 use Rattle.refusal.proofs.Tries.{first-passes, first-holds, none-given}
 use Rattle.refusal.proofs.Answers.{refuses, succeeds}
 use Rattle.blocks.specs.Blocks.{listBytes}
-use Rattle.cipher.specs.Cipher.{listFor, prepareTries, prepared}
-use Rattle.cipher.proofs.Lists.{fitting, length-prepared}
+use Rattle.lists.specs.Lists.{listFor, prepareTries, prepared}
+use Rattle.lists.proofs.Lists.{fitting, length-prepared}
 use borrow.Author.Needs.{needs}
-use Rattle.cipher.proofs.list.prepare.Statement.{statement}
-use Rattle.cipher.proofs.list.prepare.Tie as tie
+use Rattle.lists.proofs.prepare.Statement.{statement}
+use Rattle.lists.proofs.prepare.Tie as tie
 
 is-key-length-requires : tie.Need-is-key-length-requires
 is-key-length-requires c κs = search needs

@@ -15,8 +15,8 @@ use Rattle.layers.specs.Layers.{diffused}
 use Rattle.rounds.specs.Rounds.{turned}
 use Rattle.rounds.proofs.Turned.{length-listed, getD-listed, turned-length, turned-first, turned-last, turned-inner}
 use Rattle.blocks.specs.Blocks.{bytesOf, listBytes}
-use Rattle.cipher.specs.Cipher.{subkey, subkeys}
-use Rattle.cipher.proofs.Filled.{overlaid}
+use Rattle.lists.specs.Lists.{subkey, subkeys}
+use Rattle.lists.proofs.Filled.{overlaid}
 
 module _ (key : List ℕ) (R : ℕ) where
   ks : List State

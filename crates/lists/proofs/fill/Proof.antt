@@ -8,11 +8,11 @@ use Rattle.blocks.specs.Blocks.{bytesOf}
 use Rattle.schedule.specs.Columns.{padded}
 use Rattle.sizes.specs.Sizes.{sizeOf}
 use Rattle.schedule.specs.Stages.{stage}
-use Rattle.cipher.proofs.Keys.{a-key, advanced, selected}
-use Rattle.cipher.proofs.Filled.{front, front-first, front-next, front-whole, part-written}
+use Rattle.lists.proofs.Keys.{a-key, advanced, selected}
+use Rattle.lists.proofs.Filled.{front, front-first, front-next, front-whole, part-written}
 use borrow.Author.Needs.{needs}
-use Rattle.cipher.proofs.list.fill.Statement.{statement}
-use Rattle.cipher.proofs.list.fill.Tie as tie
+use Rattle.lists.proofs.fill.Statement.{statement}
+use Rattle.lists.proofs.fill.Tie as tie
 
 abbrev Inv-loop : tie.InvT-loop
 Inv-loop key rounds out₀ t k₀ s₀ out k s =

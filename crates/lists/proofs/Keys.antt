@@ -14,7 +14,7 @@ use Rattle.sizes.specs.Sizes.{Sized, keyLength, sizeOf}
 use Rattle.schedule.specs.Stages.{linearStep, constant, stage, subkeyOf}
 use Rattle.schedule.proofs.Columns.{length-columns}
 use Rattle.schedule.proofs.Padded.{padded-agrees, plus-agrees, subkey-agrees}
-use Rattle.cipher.specs.Cipher.{subkey}
+use Rattle.lists.specs.Lists.{subkey}
 
 -- ---- the three lengths
 either {ℓ} : (P : Type ℓ) (a b : Bool) → (a || b) ≡ true → (a ≡ true → P) → (b ≡ true → P) → P

@@ -4,11 +4,11 @@ use Prim.Native.Nat.{_+_, _*_}
 use denote.Ref.{now}
 use lib.ListN.{drop}
 use Rattle.blocks.specs.Blocks.{listBytes}
-use Rattle.cipher.specs.declared.Direction.{Direction}
-use Rattle.cipher.specs.Cipher.{listFor}
+use Rattle.lists.specs.declared.Direction.{Direction}
+use Rattle.lists.specs.Lists.{listFor}
 use borrow.Author.Needs.{needs}
-use Rattle.cipher.proofs.list.fill_for.Statement.{statement}
-use Rattle.cipher.proofs.list.fill_for.Tie as tie
+use Rattle.lists.proofs.fill_for.Statement.{statement}
+use Rattle.lists.proofs.fill_for.Tie as tie
 
 enum-told : tie.Need-enum-told
 enum-told c = search needs

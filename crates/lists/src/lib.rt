@@ -11,12 +11,17 @@ ghost use Rattle.refusal.specs.Tries.{first, written};
 ghost use Rattle.layers.specs.Layers.{diffused};
 ghost use Rattle.rounds.specs.Rounds.{turned};
 ghost use Rattle.blocks.specs.Blocks.{listBytes};
-ghost use Rattle.cipher.specs.Cipher.{subkeys, listFor, prepareTries, prepared};
-ghost use Rattle.cipher.specs.Sized.{Fits};
-use crate::Direction;
+ghost use Rattle.lists.specs.Lists.{subkeys, listFor, prepareTries, prepared};
+ghost use Rattle.lists.specs.Sized.{Fits};
 use blocks::write_state;
 use refusal::Outcome;
 use refusal::Reason;
+
+// Which way a subkey list is to be used.
+pub enum Direction {
+    Enciphering,
+    Deciphering,
+}
 
 // Subkeys 0 to R, from the front.
 fn fill(key: &[u8], rounds: usize, out: &mut [u8])

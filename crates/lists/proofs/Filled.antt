@@ -11,7 +11,7 @@ use Rattle.rounds.specs.Rounds.{listedFrom}
 use Rattle.rounds.proofs.Turned.{length-listed}
 use Rattle.blocks.specs.Blocks.{bytesOf, listBytes}
 use Rattle.blocks.proofs.RoundTrip.{listed-snoc, length-bytes, bytes-snoc}
-use Rattle.cipher.specs.Cipher.{subkey, subkeys}
+use Rattle.lists.specs.Lists.{subkey, subkeys}
 
 -- twelve bytes put at a place of a list, as the code lends the rest of the list from there on
 abbrev pub overlaid : ℕ → List ℕ → List ℕ → List ℕ

@@ -1,0 +1,5 @@
+pub mod Keys
+pub mod Filled
+pub mod Turned
+pub mod Lists
+pub mod Claims
