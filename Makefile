@@ -1,8 +1,9 @@
 # make run    prove the libraries and run the main job
 # make test   every test; its last line is the prover's own 'N passed, 0 failed'
 # make vectors    write the stored outputs of the test programs anew, from the independent program
+# make bench  times, side by side with plain C and the independent program; no test
 
-.PHONY: run test vectors reference
+.PHONY: run test vectors reference bench
 
 run:
 	rt check layer_vectors
@@ -20,3 +21,8 @@ reference:
 
 vectors:
 	tools/vectors write
+
+# The proved library beside plain C and the independent program, in one run.
+bench:
+	rt staticlib capi
+	cd bench && cargo run --release --offline

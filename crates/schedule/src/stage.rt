@@ -27,9 +27,9 @@ fn previous_column(n: usize, j: usize) -> usize
 }
 
 // The byte in row i, column j.
-fn byte_at(k: [u8; 24], i: usize, j: usize) -> u8
+fn byte_at(k: &[u8; 24], i: usize, j: usize) -> u8
     requires { ⌜ (i < 3) × (j < 8) ⌝ }
-    ensures { λ r. ⌜ r ≡ cell k i j ⌝ }
+    ensures { λ r. ⌜ r ≡ cell (now (k .entry)) i j ⌝ }
 {
     k[i + 3 * j]
 }
@@ -43,9 +43,9 @@ pub fn linear_step(t: usize, k: [u8; 24]) -> [u8; 24]
     let mut out = [0u8; 24];
     let mut j: usize = 0;
     while j < n {
-        let x = byte_at(k, 0, j);
-        let y = byte_at(k, 1, next_column(n, j));
-        let z = byte_at(k, 2, previous_column(n, j));
+        let x = byte_at(&k, 0, j);
+        let y = byte_at(&k, 1, next_column(n, j));
+        let z = byte_at(&k, 2, previous_column(n, j));
         let m = column_term(x, y, z);
         out[3 * j] = x ^ m;
         out[3 * j + 1] = y ^ m;
@@ -62,10 +62,12 @@ pub fn constant_of(t: usize, s: usize) -> [u8; 24]
 {
     let n = 2 * t;
     let first = n * (s - 1);
+    let p = sbox::P;
+    let q = sbox::Q;
     let mut out = [0u8; 24];
     let mut j: usize = 0;
     while j < n {
-        out[3 * j] = sbox::substitute_byte(((first + j) % 256) as u8);
+        out[3 * j] = sbox::substitute_with(&p, &q, ((first + j) % 256) as u8);
         out[3 * j + 1] = 0;
         out[3 * j + 2] = 0;
         j += 1;
@@ -80,9 +82,9 @@ pub fn add_stages(a: [u8; 24], b: [u8; 24]) -> [u8; 24]
     let mut out = [0u8; 24];
     let mut j: usize = 0;
     while j < 8 {
-        out[3 * j] = byte_at(a, 0, j) ^ byte_at(b, 0, j);
-        out[3 * j + 1] = byte_at(a, 1, j) ^ byte_at(b, 1, j);
-        out[3 * j + 2] = byte_at(a, 2, j) ^ byte_at(b, 2, j);
+        out[3 * j] = byte_at(&a, 0, j) ^ byte_at(&b, 0, j);
+        out[3 * j + 1] = byte_at(&a, 1, j) ^ byte_at(&b, 1, j);
+        out[3 * j + 2] = byte_at(&a, 2, j) ^ byte_at(&b, 2, j);
         j += 1;
     }
     out
@@ -102,11 +104,13 @@ pub fn next_stage(t: usize, s: usize, k: [u8; 24]) -> [u8; 24]
 pub fn subkey(k: [u8; 24]) -> [[u8; 3]; 4]
     ensures { λ r. ⌜ r ≡ subkeyOf k ⌝ }
 {
+    let p = sbox::P;
+    let q = sbox::Q;
     [
-        [sbox::substitute_byte(k[0]), k[1], k[2]],
-        [sbox::substitute_byte(k[3]), k[4], k[5]],
-        [sbox::substitute_byte(k[6]), k[7], k[8]],
-        [sbox::substitute_byte(k[9]), k[10], k[11]],
+        [sbox::substitute_with(&p, &q, k[0]), k[1], k[2]],
+        [sbox::substitute_with(&p, &q, k[3]), k[4], k[5]],
+        [sbox::substitute_with(&p, &q, k[6]), k[7], k[8]],
+        [sbox::substitute_with(&p, &q, k[9]), k[10], k[11]],
     ]
 }
 

@@ -69,20 +69,20 @@ loop-less c = search needs
 
 loop-again : tie.Need-loop-again Inv-loop μ-loop
 loop-again c =
-    let a = c .before .before .before .before .before .before .before .before .args .a in
-    let b = c .before .before .before .before .before .before .before .before .args .b in
-    let j = c .before .before .before .before .before .before .before .loop .j in (
+    let a = c .before .before .before .before .before .before .before .before .before .before .before .before .before .before .args .t1 in
+    let b = c .before .before .before .before .before .before .before .before .before .before .before .before .before .before .args .t2 in
+    let j = c .before .before .before .before .before .before .before .before .before .before .before .before .before .loop .j in (
       search needs,
-      written-column (λ i j. cell a i j ⊕ cell b i j) j (c .before .before .before .before .before .before .before .loop .out) _ _ _ (omega arith) (c .before .before .before .before .before .before .before .loop .inv .1)
-          (ap₂ _⊕_ (c .before .before .before .before .before .byte-at .ensures) (c .before .before .before .before .byte-at2 .ensures))
-          (ap₂ _⊕_ (c .before .before .before .byte-at3 .ensures) (c .before .before .byte-at4 .ensures))
-          (ap₂ _⊕_ (c .before .byte-at5 .ensures) (c .byte-at6 .ensures)),
+      written-column (λ i j. cell a i j ⊕ cell b i j) j (c .before .before .before .before .before .before .before .before .before .before .before .before .before .loop .out) _ _ _ (omega arith) (c .before .before .before .before .before .before .before .before .before .before .before .before .before .loop .inv .1)
+          (ap₂ _⊕_ (c .before .before .before .before .before .before .before .before .before .before .byte-at .ensures) (c .before .before .before .before .before .before .before .before .byte-at2 .ensures))
+          (ap₂ _⊕_ (c .before .before .before .before .before .before .byte-at3 .ensures) (c .before .before .before .before .byte-at4 .ensures))
+          (ap₂ _⊕_ (c .before .before .byte-at5 .ensures) (c .byte-at6 .ensures)),
     )
 
 returns : tie.Need-returns Inv-loop μ-loop
 unfolding plus
 returns c =
-    let f : ℕ → ℕ → ℕ = λ i j. cell (c .before .before .args .a) i j ⊕ cell (c .before .before .args .b) i j in
+    let f : ℕ → ℕ → ℕ = λ i j. cell (c .before .before .args .t1) i j ⊕ cell (c .before .before .args .t2) i j in
     let e : c .before .loop .j ≡ 8 = omega arith in
     c .before .loop .inv .1 ∙ ap (λ (j : ℕ). padded (fill j f)) e ∙ padded-full (fill 8 f) (length-columns f 0 8)
 

@@ -1,8 +1,8 @@
 use mathlib.Core.Path.{_≡_, refl, ap, _∙_}
 use Prim.Native.Nat.{ℕ, _+_, _-_, _*_, _≤_}
-use native.Mathlib.Nat.{mod-eq-of-lt}
 use native.Mathlib.Omega.{arith}
-use Rattle.sbox.specs.Sbox.{sbox}
+use native.Mathlib.Nat.{mod-eq-of-lt}
+use Rattle.sbox.specs.Sbox.{tableP, tableQ, sbox}
 use Rattle.schedule.specs.Columns.{columns, fill, padded}
 use Rattle.schedule.specs.Stages.{byRow, constant}
 use Rattle.schedule.proofs.Places.{entry-place}
@@ -12,10 +12,10 @@ use Rattle.schedule.proofs.stage.constant_of.Statement.{statement}
 use Rattle.schedule.proofs.stage.constant_of.Tie as tie
 
 abbrev Inv-loop : tie.InvT-loop
-Inv-loop t s n first out₀ j₀ out j = ((n ≡ 2 * t) × (first ≡ n * (s - 1))) × ((j ≤ n) × (out ≡ padded (fill j (λ i j. byRow i (sbox (2 * t * (s - 1) + j)) 0 0))))
+Inv-loop t s n first p q out₀ j₀ out j = ((n ≡ 2 * t) × ((first ≡ n * (s - 1)) × ((p ≡ tableP) × (q ≡ tableQ)))) × ((j ≤ n) × (out ≡ padded (fill j (λ i j. byRow i (sbox (2 * t * (s - 1) + j)) 0 0))))
 
 abbrev μ-loop : tie.MeasureT-loop
-μ-loop t s n first out₀ j₀ out j = n - j
+μ-loop t s n first p q out₀ j₀ out j = n - j
 
 mul-n : tie.Need-mul-n Inv-loop μ-loop
 mul-n c = search needs
@@ -27,18 +27,18 @@ mul-first : tie.Need-mul-first Inv-loop μ-loop
 mul-first c = omega (arith, entry-place (c .args .t) (c .pre .0) (c .args .s) 0 (c .pre .1 .1) (omega (arith, c .pre .0 .least)))
 
 loop-holds : tie.Need-loop-holds Inv-loop μ-loop
-unfolding padded columns
-loop-holds c = ((refl, refl), (omega arith, refl))
+unfolding padded columns tableP tableQ
+loop-holds c = ((refl, (refl, (refl, refl))), (omega arith, refl))
 
-add-substitute-byte : tie.Need-add-substitute-byte Inv-loop μ-loop
-add-substitute-byte c =
-    omega (arith, entry-place (c .before .before .args .t) (c .before .before .pre .0) (c .before .before .args .s) (c .before .loop .j) (c .before .before .pre .1 .1) (omega arith))
+add-substitute-with : tie.Need-add-substitute-with Inv-loop μ-loop
+add-substitute-with c =
+    omega (arith, entry-place (c .before .before .before .before .args .t) (c .before .before .before .before .pre .0) (c .before .before .before .before .args .s) (c .before .before .before .loop .j) (c .before .before .before .before .pre .1 .1) (omega arith))
 
-cast-substitute-byte : tie.Need-cast-substitute-byte Inv-loop μ-loop
-cast-substitute-byte c = search needs
+cast-substitute-with : tie.Need-cast-substitute-with Inv-loop μ-loop
+cast-substitute-with c = search needs
 
-substitute-byte-requires : tie.Need-substitute-byte-requires Inv-loop μ-loop
-substitute-byte-requires c κs = search needs
+substitute-with-requires : tie.Need-substitute-with-requires Inv-loop μ-loop
+substitute-with-requires c κs = search needs
 
 mul-out : tie.Need-mul-out Inv-loop μ-loop
 mul-out c = search needs
@@ -72,15 +72,15 @@ loop-less c = search needs
 
 loop-again : tie.Need-loop-again Inv-loop μ-loop
 loop-again c =
-    let t = c .before .before .before .args .t in
-    let s = c .before .before .before .args .s in
-    let j = c .before .before .loop .j in (
-      (refl, refl),
+    let t = c .before .before .before .before .before .args .t in
+    let s = c .before .before .before .before .before .args .s in
+    let j = c .before .before .before .before .loop .j in (
+      c .before .before .before .before .loop .inv .0,
       (
         search needs,
-        written-column (λ i j. byRow i (sbox (2 * t * (s - 1) + j)) 0 0) j (c .before .before .loop .out) _ _ _ (omega arith) (c .before .before .loop .inv .1 .1)
-            (c .substitute-byte .ensures
-            ∙ ap sbox (mod-eq-of-lt (entry-place t (c .before .before .before .pre .0) s j (c .before .before .before .pre .1 .1) (omega arith))))
+        written-column (λ i j. byRow i (sbox (2 * t * (s - 1) + j)) 0 0) j (c .before .before .before .before .loop .out) _ _ _ (omega arith) (c .before .before .before .before .loop .inv .1 .1)
+            (c .substitute-with .ensures
+            ∙ ap sbox (mod-eq-of-lt (entry-place t (c .before .before .before .before .before .pre .0) s j (c .before .before .before .before .before .pre .1 .1) (omega arith))))
             refl refl,
       ),
     )
@@ -103,9 +103,9 @@ constant-of-spec =
     sub-first
     mul-first
     loop-holds
-    add-substitute-byte
-    cast-substitute-byte
-    substitute-byte-requires
+    add-substitute-with
+    cast-substitute-with
+    substitute-with-requires
     mul-out
     array-write-out
     mul-out-2

@@ -70,15 +70,15 @@ loop-less c = search needs
 
 loop-again : tie.Need-loop-again Inv-loop μ-loop
 loop-again c =
-    let k = c .before .before .before .before .before .before .before .before .args .k in (
+    let k = c .before .before .before .before .before .before .before .before .before .before .before .args .t2 in (
       refl,
       (
         search needs,
-        stepped-column (2 * c .before .before .before .before .before .before .before .before .args .t) (c .before .before .before .before .before .before .before .loop .j) k (c .before .before .before .before .before .before .before .loop .out)
-            (c .before .before .before .before .before .byte-at .result) (c .before .before .before .byte-at2 .result) (c .before .byte-at3 .result) (c .column-term .result)
-            (omega arith) (c .before .before .before .before .before .before .before .loop .inv .1 .1)
-            (c .before .before .before .before .before .byte-at .ensures)
-            (c .before .before .before .byte-at2 .ensures ∙ ap (cell k 1) (c .before .before .before .before .next-column .ensures .is))
+        stepped-column (2 * c .before .before .before .before .before .before .before .before .before .before .before .args .t) (c .before .before .before .before .before .before .before .before .before .before .loop .j) k (c .before .before .before .before .before .before .before .before .before .before .loop .out)
+            (c .before .before .before .before .before .before .before .byte-at .result) (c .before .before .before .before .byte-at2 .result) (c .before .byte-at3 .result) (c .column-term .result)
+            (omega arith) (c .before .before .before .before .before .before .before .before .before .before .loop .inv .1 .1)
+            (c .before .before .before .before .before .before .before .byte-at .ensures)
+            (c .before .before .before .before .byte-at2 .ensures ∙ ap (cell k 1) (c .before .before .before .before .before .next-column .ensures .is))
             (c .before .byte-at3 .ensures ∙ ap (cell k 2) (c .before .before .previous-column .ensures .is))
             (c .column-term .ensures),
       ),
@@ -87,7 +87,7 @@ loop-again c =
 returns : tie.Need-returns Inv-loop μ-loop
 returns c =
     let t = c .before .before .args .t in
-    let k = c .before .before .args .k in
+    let k = c .before .before .args .t2 in
     let e : c .before .loop .j ≡ 2 * t = omega arith in
     c .before .loop .inv .1 .1 ∙ ap (λ (j : ℕ). padded (fill j (stepped (2 * t) k))) e ∙ ap padded (sym (step-once (2 * t) k))
 
