@@ -6,8 +6,8 @@
 .PHONY: run test vectors reference bench
 
 run:
-	rt check layer_vectors
-	target/bin/layer_vectors
+	rt check block_vectors
+	target/bin/block_vectors
 
 test:
 	tools/setup
