@@ -13,6 +13,7 @@ test:
 	tools/setup
 	$(MAKE) --no-print-directory reference
 	tools/vectors check
+	tools/check-docs
 	rt fmt --check
 	rt ci
 
