@@ -2,18 +2,17 @@
 // for which it refuses.
 
 ghost use mathlib.Core.Path.{_≡_};
-ghost use Rattle.refusal.specs.Tries.{first, written};
-ghost use Rattle.engine.specs.Engine.{engineTries, engineBlock};
-ghost use Rattle.cipher.specs.Cipher.{cipherTries, cipherBlock};
-ghost use Rattle.lists.specs.Lists.{prepareTries, prepared};
+ghost use Rattle.engine.specs.Engine.{engineNumber, engineOutput};
+ghost use Rattle.cipher.specs.Cipher.{cipherNumber, cipherOutput};
+ghost use Rattle.lists.specs.Lists.{prepareNumber, prepareOutput};
 ghost use Rattle.lists.specs.declared.Direction.the-variants.{Enciphering, Deciphering};
 use lists::Direction;
 
 // Enciphers one block.
 #[no_mangle]
 pub extern "C" fn gordzila_encipher(key: &[u8], rounds: u32, block: &[u8], out: &mut [u8]) -> u32
-    ensures { λ r. ⌜ r ≡ first (cipherTries (now (key .entry)) rounds (now (block .entry)) (now (out .entry))) ⌝ }
-    ensures { λ _. ⌜ now (out .exit) ≡ written (first (cipherTries (now (key .entry)) rounds (now (block .entry)) (now (out .entry)))) (cipherBlock Enciphering (now (key .entry)) rounds (now (block .entry))) (now (out .entry)) ⌝ }
+    ensures { λ r. ⌜ r ≡ cipherNumber (now (key .entry)) rounds (now (block .entry)) (now (out .entry)) ⌝ }
+    ensures { λ _. ⌜ now (out .exit) ≡ cipherOutput Enciphering (now (key .entry)) rounds (now (block .entry)) (now (out .entry)) ⌝ }
 {
     refusal::outcome_number(cipher::encipher(key, rounds, block, out))
 }
@@ -21,8 +20,8 @@ pub extern "C" fn gordzila_encipher(key: &[u8], rounds: u32, block: &[u8], out: 
 // Deciphers one block.
 #[no_mangle]
 pub extern "C" fn gordzila_decipher(key: &[u8], rounds: u32, block: &[u8], out: &mut [u8]) -> u32
-    ensures { λ r. ⌜ r ≡ first (cipherTries (now (key .entry)) rounds (now (block .entry)) (now (out .entry))) ⌝ }
-    ensures { λ _. ⌜ now (out .exit) ≡ written (first (cipherTries (now (key .entry)) rounds (now (block .entry)) (now (out .entry)))) (cipherBlock Deciphering (now (key .entry)) rounds (now (block .entry))) (now (out .entry)) ⌝ }
+    ensures { λ r. ⌜ r ≡ cipherNumber (now (key .entry)) rounds (now (block .entry)) (now (out .entry)) ⌝ }
+    ensures { λ _. ⌜ now (out .exit) ≡ cipherOutput Deciphering (now (key .entry)) rounds (now (block .entry)) (now (out .entry)) ⌝ }
 {
     refusal::outcome_number(cipher::decipher(key, rounds, block, out))
 }
@@ -30,8 +29,8 @@ pub extern "C" fn gordzila_decipher(key: &[u8], rounds: u32, block: &[u8], out: 
 // Prepares the subkey list for enciphering.
 #[no_mangle]
 pub extern "C" fn gordzila_prepare_enciphering(key: &[u8], rounds: u32, out: &mut [u8]) -> u32
-    ensures { λ r. ⌜ r ≡ first (prepareTries (now (key .entry)) rounds (now (out .entry))) ⌝ }
-    ensures { λ _. ⌜ now (out .exit) ≡ written (first (prepareTries (now (key .entry)) rounds (now (out .entry)))) (prepared Enciphering (now (key .entry)) rounds) (now (out .entry)) ⌝ }
+    ensures { λ r. ⌜ r ≡ prepareNumber (now (key .entry)) rounds (now (out .entry)) ⌝ }
+    ensures { λ _. ⌜ now (out .exit) ≡ prepareOutput Enciphering (now (key .entry)) rounds (now (out .entry)) ⌝ }
 {
     refusal::outcome_number(lists::prepare(key, rounds, Direction::Enciphering, out))
 }
@@ -39,8 +38,8 @@ pub extern "C" fn gordzila_prepare_enciphering(key: &[u8], rounds: u32, out: &mu
 // Prepares the subkey list for deciphering.
 #[no_mangle]
 pub extern "C" fn gordzila_prepare_deciphering(key: &[u8], rounds: u32, out: &mut [u8]) -> u32
-    ensures { λ r. ⌜ r ≡ first (prepareTries (now (key .entry)) rounds (now (out .entry))) ⌝ }
-    ensures { λ _. ⌜ now (out .exit) ≡ written (first (prepareTries (now (key .entry)) rounds (now (out .entry)))) (prepared Deciphering (now (key .entry)) rounds) (now (out .entry)) ⌝ }
+    ensures { λ r. ⌜ r ≡ prepareNumber (now (key .entry)) rounds (now (out .entry)) ⌝ }
+    ensures { λ _. ⌜ now (out .exit) ≡ prepareOutput Deciphering (now (key .entry)) rounds (now (out .entry)) ⌝ }
 {
     refusal::outcome_number(lists::prepare(key, rounds, Direction::Deciphering, out))
 }
@@ -48,8 +47,8 @@ pub extern "C" fn gordzila_prepare_deciphering(key: &[u8], rounds: u32, out: &mu
 // Runs the engine over a lent subkey list.
 #[no_mangle]
 pub extern "C" fn gordzila_run(list: &[u8], block: &[u8], out: &mut [u8]) -> u32
-    ensures { λ r. ⌜ r ≡ first (engineTries (now (list .entry)) (now (block .entry)) (now (out .entry))) ⌝ }
-    ensures { λ _. ⌜ now (out .exit) ≡ written (first (engineTries (now (list .entry)) (now (block .entry)) (now (out .entry)))) (engineBlock (now (list .entry)) (now (block .entry))) (now (out .entry)) ⌝ }
+    ensures { λ r. ⌜ r ≡ engineNumber (now (list .entry)) (now (block .entry)) (now (out .entry)) ⌝ }
+    ensures { λ _. ⌜ now (out .exit) ≡ engineOutput (now (list .entry)) (now (block .entry)) (now (out .entry)) ⌝ }
 {
     refusal::outcome_number(engine::run(list, block, out))
 }

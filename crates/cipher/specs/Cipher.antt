@@ -4,7 +4,7 @@ use mathlib.Core.List.{List, [], _∷_}
 use Prim.Native.Nat.{ℕ}
 use lib.Dec.{eqb, leb}
 use lib.ListN.{length}
-use Rattle.refusal.specs.Tries.{Try, _unless_}
+use Rattle.refusal.specs.Tries.{Try, _unless_, first, written}
 use Rattle.rounds.specs.Rounds.{enciphered}
 use Rattle.blocks.specs.Blocks.{stateOf, bytesOf}
 use Rattle.sizes.specs.Sizes.{keyLength, roundsAllowed}
@@ -23,3 +23,10 @@ cipherTries key rounds block out =
 -- the block enciphered or deciphered
 unfoldable pub cipherBlock : Direction → List ℕ → ℕ → List ℕ → List ℕ
 cipherBlock d key rounds block = bytesOf (enciphered (listFor d key rounds) (stateOf block))
+
+-- the number that enciphering or deciphering gives, and what the output holds after it
+abbrev pub cipherNumber : List ℕ → ℕ → List ℕ → List ℕ → ℕ
+cipherNumber key rounds block out = first (cipherTries key rounds block out)
+
+abbrev pub cipherOutput : Direction → List ℕ → ℕ → List ℕ → List ℕ → List ℕ
+cipherOutput d key rounds block out = written (cipherNumber key rounds block out) (cipherBlock d key rounds block) out

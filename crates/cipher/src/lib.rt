@@ -2,8 +2,7 @@
 
 ghost use mathlib.Core.Path.{_≡_};
 ghost use Rattle.refusal.specs.Reasons.{outcomeNumber};
-ghost use Rattle.refusal.specs.Tries.{first, written};
-ghost use Rattle.cipher.specs.Cipher.{cipherTries, cipherBlock};
+ghost use Rattle.cipher.specs.Cipher.{cipherNumber, cipherOutput};
 ghost use Rattle.lists.specs.declared.Direction.the-variants.{Enciphering, Deciphering};
 use lists::Direction;
 use lists::fill_for;
@@ -12,8 +11,8 @@ use refusal::Reason;
 
 // A block under the list for a direction.
 fn run_block(direction: Direction, key: &[u8], rounds: u32, block: &[u8], out: &mut [u8]) -> Outcome
-    ensures { λ r. ⌜ outcomeNumber r ≡ first (cipherTries (now (key .entry)) rounds (now (block .entry)) (now (out .entry))) ⌝ }
-    ensures { λ _. ⌜ now (out .exit) ≡ written (first (cipherTries (now (key .entry)) rounds (now (block .entry)) (now (out .entry)))) (cipherBlock direction (now (key .entry)) rounds (now (block .entry))) (now (out .entry)) ⌝ }
+    ensures { λ r. ⌜ outcomeNumber r ≡ cipherNumber (now (key .entry)) rounds (now (block .entry)) (now (out .entry)) ⌝ }
+    ensures { λ _. ⌜ now (out .exit) ≡ cipherOutput direction (now (key .entry)) rounds (now (block .entry)) (now (out .entry)) ⌝ }
 {
     if !sizes::is_key_length(key.len()) {
         return Outcome::Refused(Reason::KeyLength);
@@ -38,16 +37,16 @@ fn run_block(direction: Direction, key: &[u8], rounds: u32, block: &[u8], out: &
 
 // Enciphers one block.
 pub fn encipher(key: &[u8], rounds: u32, block: &[u8], out: &mut [u8]) -> Outcome
-    ensures { λ r. ⌜ outcomeNumber r ≡ first (cipherTries (now (key .entry)) rounds (now (block .entry)) (now (out .entry))) ⌝ }
-    ensures { λ _. ⌜ now (out .exit) ≡ written (first (cipherTries (now (key .entry)) rounds (now (block .entry)) (now (out .entry)))) (cipherBlock Enciphering (now (key .entry)) rounds (now (block .entry))) (now (out .entry)) ⌝ }
+    ensures { λ r. ⌜ outcomeNumber r ≡ cipherNumber (now (key .entry)) rounds (now (block .entry)) (now (out .entry)) ⌝ }
+    ensures { λ _. ⌜ now (out .exit) ≡ cipherOutput Enciphering (now (key .entry)) rounds (now (block .entry)) (now (out .entry)) ⌝ }
 {
     run_block(Direction::Enciphering, key, rounds, block, out)
 }
 
 // Deciphers one block.
 pub fn decipher(key: &[u8], rounds: u32, block: &[u8], out: &mut [u8]) -> Outcome
-    ensures { λ r. ⌜ outcomeNumber r ≡ first (cipherTries (now (key .entry)) rounds (now (block .entry)) (now (out .entry))) ⌝ }
-    ensures { λ _. ⌜ now (out .exit) ≡ written (first (cipherTries (now (key .entry)) rounds (now (block .entry)) (now (out .entry)))) (cipherBlock Deciphering (now (key .entry)) rounds (now (block .entry))) (now (out .entry)) ⌝ }
+    ensures { λ r. ⌜ outcomeNumber r ≡ cipherNumber (now (key .entry)) rounds (now (block .entry)) (now (out .entry)) ⌝ }
+    ensures { λ _. ⌜ now (out .exit) ≡ cipherOutput Deciphering (now (key .entry)) rounds (now (block .entry)) (now (out .entry)) ⌝ }
 {
     run_block(Direction::Deciphering, key, rounds, block, out)
 }

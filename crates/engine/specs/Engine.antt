@@ -4,7 +4,7 @@ use mathlib.Core.List.{List, [], _∷_}
 use Prim.Native.Nat.{ℕ, _%_}
 use lib.Dec.{eqb, leb}
 use lib.ListN.{length}
-use Rattle.refusal.specs.Tries.{Try, _unless_}
+use Rattle.refusal.specs.Tries.{Try, _unless_, first, written}
 use Rattle.blocks.specs.Blocks.{stateOf, bytesOf, listStates}
 use Rattle.rounds.specs.Rounds.{enciphered}
 
@@ -23,3 +23,10 @@ engineTries list block out =
 -- the block that the engine gives
 unfoldable pub engineBlock : List ℕ → List ℕ → List ℕ
 engineBlock list block = bytesOf (enciphered (listStates list) (stateOf block))
+
+-- the number that the engine gives, and what the output holds after it
+abbrev pub engineNumber : List ℕ → List ℕ → List ℕ → ℕ
+engineNumber list block out = first (engineTries list block out)
+
+abbrev pub engineOutput : List ℕ → List ℕ → List ℕ → List ℕ
+engineOutput list block out = written (engineNumber list block out) (engineBlock list block) out

@@ -4,10 +4,9 @@ ghost use mathlib.Core.Path.{_≡_};
 ghost use mathlib.Core.Bool.{true};
 ghost use lib.ListN.{length};
 ghost use Rattle.refusal.specs.Reasons.{outcomeNumber};
-ghost use Rattle.refusal.specs.Tries.{first, written};
 ghost use Rattle.rounds.specs.Rounds.{enciphered};
 ghost use Rattle.blocks.specs.Blocks.{listStates};
-ghost use Rattle.engine.specs.Engine.{listLength, engineTries, engineBlock};
+ghost use Rattle.engine.specs.Engine.{listLength, engineNumber, engineOutput};
 use blocks::state_of;
 use blocks::write_state;
 use refusal::Outcome;
@@ -46,8 +45,8 @@ pub fn encipher_state(list: &[u8], a: [[u8; 3]; 4]) -> [[u8; 3]; 4]
 
 // Enciphers a block under a lent list of 11 to 24 subkeys.
 pub fn run(list: &[u8], block: &[u8], out: &mut [u8]) -> Outcome
-    ensures { λ r. ⌜ outcomeNumber r ≡ first (engineTries (now (list .entry)) (now (block .entry)) (now (out .entry))) ⌝ }
-    ensures { λ _. ⌜ now (out .exit) ≡ written (first (engineTries (now (list .entry)) (now (block .entry)) (now (out .entry)))) (engineBlock (now (list .entry)) (now (block .entry))) (now (out .entry)) ⌝ }
+    ensures { λ r. ⌜ outcomeNumber r ≡ engineNumber (now (list .entry)) (now (block .entry)) (now (out .entry)) ⌝ }
+    ensures { λ _. ⌜ now (out .exit) ≡ engineOutput (now (list .entry)) (now (block .entry)) (now (out .entry)) ⌝ }
 {
     if !is_list_length(list.len()) {
         return Outcome::Refused(Reason::StageOrList);

@@ -4,7 +4,7 @@ use mathlib.Core.List.{List, [], _∷_}
 use Prim.Native.Nat.{ℕ, suc, _+_, _*_}
 use lib.Dec.{leb}
 use lib.ListN.{length}
-use Rattle.refusal.specs.Tries.{Try, _unless_}
+use Rattle.refusal.specs.Tries.{Try, _unless_, first, written}
 use Rattle.layers.specs.State.{State}
 use Rattle.rounds.specs.Rounds.{listedFrom, turned}
 use Rattle.blocks.specs.Blocks.{listBytes}
@@ -37,3 +37,10 @@ prepareTries key rounds out =
 -- the bytes of a prepared list
 unfoldable pub prepared : Direction → List ℕ → ℕ → List ℕ
 prepared d key rounds = listBytes (listFor d key rounds)
+
+-- the number that preparing a list gives, and what the output holds after it
+abbrev pub prepareNumber : List ℕ → ℕ → List ℕ → ℕ
+prepareNumber key rounds out = first (prepareTries key rounds out)
+
+abbrev pub prepareOutput : Direction → List ℕ → ℕ → List ℕ → List ℕ
+prepareOutput d key rounds out = written (prepareNumber key rounds out) (prepared d key rounds) out

@@ -1,17 +1,16 @@
 // Subkey lists in lent bytes, twelve bytes a subkey. The key's stage is carried along; each subkey is written as its stage is reached.
 
 ghost use mathlib.Core.Path.{_≡_};
-ghost use mathlib.Core.Bool.{true, cond};
+ghost use mathlib.Core.Bool.{cond};
 ghost use mathlib.Core.List.{_++_};
-ghost use Prim.Native.Nat.{_+_, _*_, _<_, _≤_};
+ghost use Prim.Native.Nat.{_+_, _*_};
 ghost use lib.Dec.{ltb};
 ghost use lib.ListN.{length, drop};
 ghost use Rattle.refusal.specs.Reasons.{outcomeNumber};
-ghost use Rattle.refusal.specs.Tries.{first, written};
 ghost use Rattle.layers.specs.Layers.{diffused};
 ghost use Rattle.rounds.specs.Rounds.{turned};
 ghost use Rattle.blocks.specs.Blocks.{listBytes};
-ghost use Rattle.lists.specs.Lists.{subkeys, listFor, prepareTries, prepared};
+ghost use Rattle.lists.specs.Lists.{subkeys, listFor, prepareNumber, prepareOutput};
 ghost use Rattle.lists.specs.Sized.{Fits};
 use blocks::write_state;
 use refusal::Outcome;
@@ -84,8 +83,8 @@ pub fn fill_for(direction: Direction, key: &[u8], rounds: usize, out: &mut [u8])
 
 // Prepares the subkey list for a direction: 12(R + 1) bytes.
 pub fn prepare(key: &[u8], rounds: u32, direction: Direction, out: &mut [u8]) -> Outcome
-    ensures { λ r. ⌜ outcomeNumber r ≡ first (prepareTries (now (key .entry)) rounds (now (out .entry))) ⌝ }
-    ensures { λ _. ⌜ now (out .exit) ≡ written (first (prepareTries (now (key .entry)) rounds (now (out .entry)))) (prepared direction (now (key .entry)) rounds) (now (out .entry)) ⌝ }
+    ensures { λ r. ⌜ outcomeNumber r ≡ prepareNumber (now (key .entry)) rounds (now (out .entry)) ⌝ }
+    ensures { λ _. ⌜ now (out .exit) ≡ prepareOutput direction (now (key .entry)) rounds (now (out .entry)) ⌝ }
 {
     if !sizes::is_key_length(key.len()) {
         return Outcome::Refused(Reason::KeyLength);

@@ -1,13 +1,11 @@
 // A stage after another, and a stage's subkey. A stage of 2t columns is kept in 24 bytes, with zeros past it.
 
 ghost use mathlib.Core.Path.{_≡_};
-ghost use Prim.Native.Nat.{_+_, _*_, _≤_, _<_};
+ghost use Prim.Native.Nat.{_*_, _≤_, _<_};
 ghost use lib.ListN.{length};
-ghost use Rattle.sbox.specs.Sbox.{sbox};
-ghost use Rattle.schedule.specs.Columns.{cell, plus, padded};
+ghost use Rattle.schedule.specs.Columns.{cell, plus, padded, Place};
 ghost use Rattle.schedule.specs.Stages.{next, previous, linearStep, constant, subkeyOf};
 ghost use Rattle.sizes.specs.Sizes.{Sized};
-ghost use Rattle.schedule.specs.Columns.{Place};
 use crate::column::column_term;
 
 // The column after j around n columns.

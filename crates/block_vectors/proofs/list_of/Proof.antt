@@ -1,3 +1,4 @@
+-- `block_vectors::list_of` meets its contract.
 use mathlib.Core.Path.{sym}
 use native.Mathlib.Omega.{arith}
 use lib.ListN.{replicate}

@@ -1,3 +1,4 @@
+-- `block_vectors::main` meets its contract. The invariant says what is done so far.
 use Prim.Native.Nat.{_-_, _≤_}
 use borrow.Author.Needs.{needs}
 use Rattle.block_vectors.proofs.main.Statement.{statement}

@@ -1,3 +1,4 @@
+-- `block_vectors::size_lines` meets its contract. The invariant says what is done so far.
 use Prim.Native.Nat.{_-_}
 use borrow.Author.Needs.{needs}
 use Rattle.block_vectors.proofs.size_lines.Statement.{statement}

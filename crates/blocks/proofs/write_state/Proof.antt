@@ -1,3 +1,4 @@
+-- `blocks::write_state` meets its contract.
 use native.Mathlib.Omega.{arith}
 use lib.ListN.{length-set}
 use lib.Seq.{sets-eq}

@@ -1,3 +1,4 @@
+-- `cipher_refusals::main` meets its contract. The invariant says what is done so far.
 use Prim.Native.Nat.{_-_, _≤_}
 use borrow.Author.Needs.{needs}
 use Rattle.cipher_refusals.proofs.main.Statement.{statement}

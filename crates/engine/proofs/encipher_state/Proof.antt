@@ -1,3 +1,4 @@
+-- `engine::encipher_state` meets its contract. The invariant says what is done so far.
 use mathlib.Core.Path.{_≡_, refl, sym, ap, _∙_}
 use Prim.Native.Nat.{ℕ, _+_, _-_, _*_, _/_, _≤_}
 use native.Mathlib.Omega.{arith}

@@ -1,3 +1,4 @@
+-- `engine::is_list_length` meets its contract.
 use Rattle.engine.proofs.Lists.{too-short, too-long, within}
 use Rattle.engine.proofs.is_list_length.Statement.{statement}
 use Rattle.engine.proofs.is_list_length.Tie as tie

@@ -1,3 +1,4 @@
+-- `field::times_c` meets its contract.
 use borrow.Author.Needs.{needs}
 use Rattle.field.proofs.Constants.{times-c-is}
 use Rattle.field.proofs.times_c.Statement.{statement}

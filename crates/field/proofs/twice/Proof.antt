@@ -1,3 +1,4 @@
+-- `field::twice` meets its contract.
 use borrow.Author.Needs.{needs}
 use Rattle.field.proofs.Constants.{twice-is}
 use Rattle.field.proofs.twice.Statement.{statement}

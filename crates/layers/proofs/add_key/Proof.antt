@@ -1,3 +1,4 @@
+-- `layers::add_key` meets its contract.
 use mathlib.Core.List.{[], _∷_}
 use borrow.Author.Needs.{needs}
 use Rattle.layers.proofs.add_key.Statement.{statement}

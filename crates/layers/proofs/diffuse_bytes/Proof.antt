@@ -1,3 +1,4 @@
+-- `layers::diffuse_bytes` meets its contract.
 use borrow.Author.Needs.{needs}
 use Prim.Native.Nat.{_<_}
 use lib.Dec.{lit<}

@@ -1,3 +1,4 @@
+-- `layers::substitute` meets its contract.
 use mathlib.Core.Path.{refl}
 use mathlib.Core.List.{[], _∷_}
 use Rattle.sbox.specs.Sbox.{tableP, tableQ}

@@ -1,3 +1,4 @@
+-- `printing::draw` meets its contract. The invariant says what is done so far.
 use native.Mathlib.Omega.{arith}
 use lib.ListN.{length-set}
 use Prim.Native.Nat.{_-_, _≤_}

@@ -1,3 +1,4 @@
+-- `printing::hex_bytes` meets its contract. The invariant says what is done so far.
 use Prim.Native.Nat.{_-_, _≤_}
 use lib.ListN.{length}
 use borrow.Author.Needs.{needs}

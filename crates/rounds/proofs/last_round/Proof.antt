@@ -1,3 +1,4 @@
+-- `rounds::last_round` meets its contract.
 use mathlib.Core.Path.{ap, _∙_}
 use Rattle.layers.specs.Layers.{permuted, added}
 use Rattle.rounds.specs.Rounds.{lastRound}

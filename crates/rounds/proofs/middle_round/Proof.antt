@@ -1,3 +1,4 @@
+-- `rounds::middle_round` meets its contract.
 use mathlib.Core.Path.{ap, _∙_}
 use Rattle.layers.specs.Layers.{permuted, diffused, added}
 use Rattle.rounds.specs.Rounds.{round}

@@ -1,3 +1,4 @@
+-- `sbox::join_halves` meets its contract.
 use Rattle.sbox.proofs.Laws.{halves-is}
 use Rattle.sbox.proofs.join_halves.Statement.{statement}
 use Rattle.sbox.proofs.join_halves.Tie as tie

@@ -1,3 +1,4 @@
+-- `sbox::join_lows` meets its contract.
 use native.Mathlib.Omega.{arith}
 use Rattle.sbox.proofs.Laws.{lows-is}
 use Rattle.sbox.proofs.join_lows.Statement.{statement}

@@ -1,3 +1,4 @@
+-- `sbox::join_tops` meets its contract.
 use native.Mathlib.Omega.{arith}
 use Rattle.sbox.proofs.Laws.{tops-is}
 use Rattle.sbox.proofs.join_tops.Statement.{statement}

@@ -1,3 +1,4 @@
+-- `sbox::low_half` meets its contract.
 use native.Mathlib.Omega.{arith}
 use lib.Bits.{and-mask}
 use Rattle.sbox.proofs.low_half.Statement.{statement}

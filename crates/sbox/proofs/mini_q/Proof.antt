@@ -1,3 +1,4 @@
+-- `sbox::mini_q` meets its contract.
 use mathlib.Core.Path.{sym, ap, subst}
 use mathlib.Core.List.{List}
 use Prim.Native.Nat.{ℕ, _<_}

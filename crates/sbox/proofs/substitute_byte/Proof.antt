@@ -1,3 +1,4 @@
+-- `sbox::substitute_byte` meets its contract.
 use mathlib.Core.Path.{refl}
 use Rattle.sbox.specs.Sbox.{tableP, tableQ}
 use borrow.Author.Needs.{needs}

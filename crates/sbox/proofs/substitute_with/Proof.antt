@@ -1,3 +1,4 @@
+-- `sbox::substitute_with` meets its contract.
 use Rattle.sbox.specs.Sbox.{sbox}
 use borrow.Author.Needs.{needs}
 use Rattle.sbox.proofs.substitute_with.Statement.{statement}

@@ -1,3 +1,4 @@
+-- `sizes::is_key_length` meets its contract.
 use mathlib.Core.Path.{sym, ap}
 use Rattle.sizes.specs.Sizes.{keyLength}
 use Rattle.sizes.proofs.Laws.{not-first}

@@ -1,3 +1,4 @@
+-- `sizes::is_round_count` meets its contract.
 use mathlib.Core.Path.{ap, _∙_}
 use native.Mathlib.Omega.{arith}
 use lib.Dec.{leb}

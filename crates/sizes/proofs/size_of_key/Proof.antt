@@ -1,3 +1,4 @@
+-- `sizes::size_of_key` meets its contract.
 use mathlib.Core.Path.{sym, ap, _∙_}
 use Prim.Native.Nat.{ℕ}
 use Rattle.sizes.specs.Sizes.{sizeFor, sizeOf}

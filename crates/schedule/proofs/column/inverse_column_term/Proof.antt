@@ -1,3 +1,4 @@
+-- `schedule::column::inverse_column_term` meets its contract.
 use mathlib.Core.Path.{ap, _∙_}
 use Prim.Native.Nat.{ℕ}
 use Rattle.field.specs.Field.{_⊕_}

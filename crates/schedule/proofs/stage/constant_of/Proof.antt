@@ -1,3 +1,4 @@
+-- `schedule::stage::constant_of` meets its contract. The invariant says what is done so far.
 use mathlib.Core.Path.{_≡_, refl, ap, _∙_}
 use Prim.Native.Nat.{ℕ, _+_, _-_, _*_, _≤_}
 use native.Mathlib.Omega.{arith}

@@ -1,3 +1,4 @@
+-- `schedule::stage::next_column` meets its contract.
 use native.Mathlib.Omega.{arith}
 use Rattle.schedule.proofs.Places.{next-on, next-around}
 use borrow.Author.Needs.{needs}

@@ -1,3 +1,4 @@
+-- `schedule::stage::next_stage` meets its contract.
 use mathlib.Core.Path.{ap, _∙_}
 use mathlib.Core.List.{List}
 use Prim.Native.Nat.{ℕ, _*_}

@@ -1,3 +1,4 @@
+-- `schedule::stage::previous_column` meets its contract.
 use native.Mathlib.Omega.{arith}
 use Rattle.schedule.proofs.Places.{previous-back, previous-around}
 use borrow.Author.Needs.{needs}

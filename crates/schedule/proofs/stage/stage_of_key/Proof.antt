@@ -1,3 +1,4 @@
+-- `schedule::stage::stage_of_key` meets its contract. The invariant says what is done so far.
 use mathlib.Core.Path.{_≡_, refl, ap, _∙_}
 use mathlib.Core.List.{List}
 use Prim.Native.Nat.{ℕ, _-_, _≤_}

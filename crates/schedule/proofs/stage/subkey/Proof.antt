@@ -1,3 +1,4 @@
+-- `schedule::stage::subkey` meets its contract.
 use mathlib.Core.Path.{refl}
 use mathlib.Core.List.{[], _∷_}
 use lib.ListN.{getD}
