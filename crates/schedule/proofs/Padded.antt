@@ -1,5 +1,5 @@
 -- A stage in 24 bytes: its cells are the stage's, so a step over it is a step over the stage.
-use mathlib.Core.Path.{_≡_, sym, ap, ap₂, _∙_}
+use mathlib.Core.Path.{_≡_, ap, ap₂}
 use mathlib.Core.List.{List, [], _∷_}
 use Prim.Native.Nat.{ℕ, _+_, _-_, _*_, _≤_, _<_}
 use native.Mathlib.Omega.{arith}
@@ -10,7 +10,7 @@ use Rattle.field.specs.Field.{_⊕_, cubeRoot}
 use Rattle.sbox.specs.Sbox.{sbox}
 use Rattle.schedule.specs.Columns.{cell, IsStage, filled, plus, padded, columnRule}
 use Rattle.schedule.specs.Stages.{next, previous, byRow, moved, linearStep, subkeyOf}
-use Rattle.schedule.proofs.Columns.{fill-path, cell-fill, length-columns}
+use Rattle.schedule.proofs.Columns.{fill-path, length-columns}
 use Rattle.schedule.proofs.Steps.{in-range, wrap}
 
 pub stage-length : (n : ℕ) {k : List ℕ} → IsStage n k → length k ≡ 3 * n
@@ -35,17 +35,6 @@ step-agrees n a b p =
     ap (columnRule cubeRoot n)
     (fill-path n (λ i j. cell a i (byRow i j (next n j) (previous n j))) (λ i j. cell b i (byRow i j (next n j) (previous n j)))
     (λ i j hi hj. p i (byRow i j (next n j) (previous n j)) hi (in-range n i j (next n j) (previous n j) hj (wrap n j (j + 1) hj) (wrap n j (j + (n - 1)) hj))))
-
--- the sum of eight columns agrees with that of n of them
-sum-agrees : (n : ℕ) (k c : List ℕ) → n ≤ 8 → length c ≡ 3 * n → Agree n (plus 8 k (padded c)) (plus n k c)
-unfolding plus
-sum-agrees n k c h e i j hi hj =
-    cell-fill 8 (λ i j. cell k i j ⊕ cell (padded c) i j) i j hi (omega arith)
-    ∙ ap (bitXor (cell k i j)) (padded-agrees n c e i j hi hj)
-    ∙ sym (cell-fill n (λ i j. cell k i j ⊕ cell c i j) i j hi hj)
-
-pub step-sum : (n : ℕ) (k c : List ℕ) → n ≤ 8 → length c ≡ 3 * n → linearStep n (plus 8 k (padded c)) ≡ linearStep n (plus n k c)
-step-sum n k c h e = step-agrees n (plus 8 k (padded c)) (plus n k c) (sum-agrees n k c h e)
 
 -- a subkey reads the first four columns
 pub subkey-agrees : (n : ℕ) (a b : List ℕ) → 4 ≤ n → Agree n a b → subkeyOf a ≡ subkeyOf b

@@ -1,15 +1,17 @@
 -- The stages of a key are stages, and so are the constants and the closing sum.
-use mathlib.Core.Path.{_≡_}
+use mathlib.Core.Path.{_≡_, sym, ap}
 use mathlib.Core.List.{List}
 use Prim.Native.Nat.{ℕ, zero, suc, _+_, _-_, _*_, _<_}
 use lib.ListN.{length}
 use lib.Dec.{lit<}
 use Rattle.sbox.specs.Sbox.{sbox}
 use Rattle.sbox.proofs.Laws.{sbox-small}
-use Rattle.schedule.specs.Columns.{IsStage, filled}
+use lib.Bits.{bitXor}
+use Rattle.field.specs.Field.{_⊕_}
+use Rattle.schedule.specs.Columns.{cell, fill, IsStage, filled, plus}
+use Rattle.schedule.proofs.Columns.{fill-path, cell-fill, length-columns}
 use Rattle.schedule.specs.Stages.{byRow, constant, stage, zeros, closingSum}
 use Rattle.schedule.proofs.Steps.{step-stage, plus-stage}
-use Rattle.schedule.proofs.Padded.{stage-length}
 
 row-small : (i a : ℕ) → a < 256 → byRow i a 0 0 < 256
 row-small zero a h = h
@@ -20,8 +22,17 @@ pub constant-stage : (t s : ℕ) → IsStage (2 * t) (constant t s)
 unfolding constant
 constant-stage t s = filled (λ i j. byRow i (sbox (2 * t * (s - 1) + j)) 0 0) (λ i j. row-small i (sbox (2 * t * (s - 1) + j)) (sbox-small (2 * t * (s - 1) + j)))
 
-pub constant-length : (t s : ℕ) → length (constant t s) ≡ 3 * (2 * t)
-constant-length t s = stage-length (2 * t) (constant-stage t s)
+-- the sum of a stage and a constant, cell by cell
+pub plus-constant : (t s : ℕ) (k : List ℕ) → fill (2 * t) (λ i j. cell k i j ⊕ byRow i (sbox (2 * t * (s - 1) + j)) 0 0) ≡ plus (2 * t) k (constant t s)
+unfolding plus constant
+plus-constant t s k =
+    let f : ℕ → ℕ → ℕ = λ i j. byRow i (sbox (2 * t * (s - 1) + j)) 0 0 in
+    fill-path (2 * t) (λ i j. cell k i j ⊕ f i j) (λ i j. cell k i j ⊕ cell (fill (2 * t) f) i j)
+    (λ i j hi hj. ap (bitXor (cell k i j)) (sym (cell-fill (2 * t) f i j hi hj)))
+
+pub length-plus : (n : ℕ) (a b : List ℕ) → length (plus n a b) ≡ 3 * n
+unfolding plus
+length-plus n a b = length-columns (λ i j. cell a i j ⊕ cell b i j) 0 n
 
 pub zeros-stage : (n : ℕ) → IsStage n (zeros n)
 unfolding zeros

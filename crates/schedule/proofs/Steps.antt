@@ -7,7 +7,7 @@ use native.Mathlib.Omega.{arith}
 use lib.Dec.{lit<}
 use lib.Bits.{bitXor}
 use Rattle.field.specs.Field.{_⊕_, cubeRoot}
-use Rattle.field.proofs.Addition.{assoc, comm, left-comm, self, zero-right, byte}
+use Rattle.field.proofs.Addition.{assoc, left-comm, self, zero-right, byte}
 use Rattle.field.proofs.Linear.{times-right}
 use Rattle.schedule.specs.Columns.{cell, fill, IsStage, filled, plus, ruleByte, columnRule}
 use Rattle.schedule.specs.Stages.{next, previous, byRow, moved, rotated, unrotated, linearStep, inverseStep}

@@ -1,6 +1,6 @@
 -- What the code makes of a stage, column after column: the columns done so far, then zeros to 24 bytes.
 use mathlib.Core.Path.{_≡_, sym, ap, _∙_}
-use mathlib.Core.List.{List, [], _∷_, _++_, append-assoc, append-nil}
+use mathlib.Core.List.{List, [], _∷_, _++_, append-assoc}
 use Prim.Native.Nat.{ℕ, suc, _+_, _-_, _*_, _≤_, _<_}
 use native.Mathlib.Nat.{zero-add, suc-add}
 use native.Mathlib.Omega.{arith}
@@ -57,14 +57,6 @@ stepped-column n j k out a b d m h eo ea eb ed em = cc (put-padded (stepped n k)
 pub written-column : (f : ℕ → ℕ → ℕ) (j : ℕ) (out : List ℕ) (x y z : ℕ) → j < 8 → out ≡ padded (fill j f) → x ≡ f 0 j → y ≡ f 1 j → z ≡ f 2 j
     → put-column out j x y z ≡ padded (fill (j + 1) f)
 written-column f j out x y z h eo ex ey ez = cc (put-padded f j h, add-one j)
-
--- nothing is added to 24 bytes
-pub padded-full : (k : List ℕ) → length k ≡ 24 → padded k ≡ k
-unfolding padded
-padded-full k e = ap (λ (m : ℕ). k ++ replicate m 0) z ∙ append-nil k
-  where
-    z : 24 - length k ≡ 0
-    z = omega arith
 
 -- ---- a stage written byte after byte
 pub padded-next : (k : List ℕ) (i : ℕ) → i < length k → length k ≤ 24 → set (padded (take i k)) i (getD k i 0) ≡ padded (take (i + 1) k)

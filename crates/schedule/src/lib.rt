@@ -3,7 +3,6 @@
 mod column;
 mod stage;
 
-pub use stage::add_stages;
 pub use stage::linear_step;
 pub use stage::next_stage;
 pub use stage::stage_of_key;

@@ -53,10 +53,10 @@ pub fn linear_step(t: usize, k: [u8; 24]) -> [u8; 24]
     out
 }
 
-// Constant s for keys of 2t columns, s from 1 to 6t - 1.
-pub fn constant_of(t: usize, s: usize) -> [u8; 24]
+// A stage plus constant s, which has zeros in rows 1 and 2.
+fn add_constant(t: usize, s: usize, k: [u8; 24]) -> [u8; 24]
     requires { ⌜ Sized t × ((0 < s) × (s < 6 * t)) ⌝ }
-    ensures { λ r. ⌜ r ≡ padded (constant t s) ⌝ }
+    ensures { λ r. ⌜ r ≡ padded (plus (2 * t) k (constant t s)) ⌝ }
 {
     let n = 2 * t;
     let first = n * (s - 1);
@@ -65,24 +65,12 @@ pub fn constant_of(t: usize, s: usize) -> [u8; 24]
     let mut out = [0u8; 24];
     let mut j: usize = 0;
     while j < n {
-        out[3 * j] = sbox::substitute_with(&p, &q, ((first + j) % 256) as u8);
-        out[3 * j + 1] = 0;
-        out[3 * j + 2] = 0;
-        j += 1;
-    }
-    out
-}
-
-// The sum of two stages.
-pub fn add_stages(a: [u8; 24], b: [u8; 24]) -> [u8; 24]
-    ensures { λ r. ⌜ r ≡ plus 8 a b ⌝ }
-{
-    let mut out = [0u8; 24];
-    let mut j: usize = 0;
-    while j < 8 {
-        out[3 * j] = byte_at(&a, 0, j) ^ byte_at(&b, 0, j);
-        out[3 * j + 1] = byte_at(&a, 1, j) ^ byte_at(&b, 1, j);
-        out[3 * j + 2] = byte_at(&a, 2, j) ^ byte_at(&b, 2, j);
+        let x = byte_at(&k, 0, j);
+        let y = byte_at(&k, 1, j);
+        let z = byte_at(&k, 2, j);
+        out[3 * j] = x ^ sbox::substitute_with(&p, &q, ((first + j) % 256) as u8);
+        out[3 * j + 1] = y;
+        out[3 * j + 2] = z;
         j += 1;
     }
     out
@@ -93,8 +81,7 @@ pub fn next_stage(t: usize, s: usize, k: [u8; 24]) -> [u8; 24]
     requires { ⌜ Sized t × ((0 < s) × (s < 6 * t)) ⌝ }
     ensures { λ r. ⌜ r ≡ padded (linearStep (2 * t) (plus (2 * t) k (constant t s))) ⌝ }
 {
-    let c = constant_of(t, s);
-    let sum = add_stages(k, c);
+    let sum = add_constant(t, s, k);
     linear_step(t, sum)
 }
 
