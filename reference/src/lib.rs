@@ -14,6 +14,7 @@ pub mod field;
 pub mod generator;
 pub mod layers;
 pub mod matrix;
+pub mod routes;
 pub mod sbox;
 pub mod schedule;
 pub mod vectors;

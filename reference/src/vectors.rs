@@ -1,4 +1,5 @@
-//! The vectors that the program prints, as plain text.
+//! The vectors that the program prints, as plain text; those of `routes` are in
+//! `routes.rs`.
 //!
 //! Every subcommand has a generator of its own that starts from seed 1 and
 //! draws bytes for inputs only, in the order in which they are first printed. A
@@ -30,10 +31,10 @@ use crate::sbox;
 use crate::schedule::{cipher_key, psi, select};
 
 /// The seed from which every subcommand starts.
-const SEED: u64 = 1;
+pub(crate) const SEED: u64 = 1;
 
 /// The key lengths in bytes (section 3.5), in the order of Table 2.
-const KEY_LENGTHS: [usize; 3] = [12, 18, 24];
+pub(crate) const KEY_LENGTHS: [usize; 3] = [12, 18, 24];
 
 /// Bytes as lowercase hexadecimal digits, two for each.
 pub fn hex(bytes: &[u8]) -> String {
@@ -41,7 +42,7 @@ pub fn hex(bytes: &[u8]) -> String {
 }
 
 /// A matrix as hexadecimal digits, by columns.
-fn matrix_hex<const N: usize>(matrix: &Matrix<N>) -> String {
+pub(crate) fn matrix_hex<const N: usize>(matrix: &Matrix<N>) -> String {
     hex(&matrix.to_bytes())
 }
 
@@ -57,7 +58,7 @@ fn draw_state(generator: &mut Generator) -> State {
 }
 
 /// Adds a line to a text: the fields, with one space between each two.
-fn add_line(text: &mut String, fields: &[&str]) {
+pub(crate) fn add_line(text: &mut String, fields: &[&str]) {
     text.push_str(&fields.join(" "));
     text.push('\n');
 }

@@ -163,3 +163,35 @@ fn stages_draws_its_inputs_as_documented() {
     }
     assert!(rest.next().is_none());
 }
+
+/// The name of a drawn call, and the destination if it is a walk.
+fn drawn_call(draw: &mut Draw) -> Vec<String> {
+    let drawn = bytes(&draw.hex(2));
+    match drawn[0] % 8 {
+        0 | 1 => vec!["forward".to_string()],
+        2 | 3 => vec!["back".to_string()],
+        4 => vec!["subkey".to_string()],
+        _ => vec!["walk".to_string(), (drawn[1] % 32).to_string()],
+    }
+}
+
+#[test]
+fn routes_draws_its_inputs_as_documented() {
+    let mut draw = Draw::new();
+    let printed = lines("routes");
+    let mut rest = printed.iter();
+    for (key_length, _, _) in SIZES {
+        for _ in 0..4 {
+            let mut next = || rest.next().expect("there are more lines");
+            assert_eq!(*next(), ["route", &draw.hex(key_length)]);
+            for _ in 0..200 {
+                let call = drawn_call(&mut draw);
+                assert_eq!(next()[..call.len()], call);
+            }
+            let length = key_length.to_string();
+            assert_eq!(next()[..2], ["holder", &length]);
+            assert_eq!(next()[..3], ["straight", "0", &length]);
+        }
+    }
+    assert!(rest.next().is_none());
+}

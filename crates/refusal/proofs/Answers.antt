@@ -1,12 +1,14 @@
--- What a call over lent bytes has to show at each return: its number is the first that holds, and the output is as `written` says.
+-- What a call has to show at each return: its number is the first that holds, and the output is as `written` says, or what it answers
+-- with as `answered` says.
 use mathlib.Core.Path.{_≡_, sym, ap, _∙_}
 use mathlib.Core.Bool.{Bool, cond}
 use mathlib.Core.List.{List, _++_}
 use Prim.Native.Nat.{ℕ, _<_}
 use native.Mathlib.Omega.{arith}
+use lib.Dec.{eqb}
 use lib.ListN.{length, drop}
 use borrow.Author.Tests.{eq-eqb, ne-eqb}
-use Rattle.refusal.specs.Tries.{Try, first, written}
+use Rattle.refusal.specs.Tries.{Try, first, written, answered}
 
 -- a refusal changes no byte
 pub kept : (n : ℕ) (bytes out : List ℕ) → 0 < n → out ≡ written n bytes out
@@ -25,3 +27,12 @@ refuses ts n bytes out h e = (sym e, kept n bytes out h ∙ ap (λ (m : ℕ). wr
 -- no refusal
 pub succeeds : (ts : List Try) (bytes out : List ℕ) → first ts ≡ 0 → (0 ≡ first ts) × (bytes ++ drop (length bytes) out ≡ written (first ts) bytes out)
 succeeds ts bytes out e = (sym e, put (first ts) bytes out e)
+
+-- ---- calls by value
+pub answer-refused : {A : Type 0} (ts : List Try) (n : ℕ) (done refused : A) → 0 < n → first ts ≡ n → refused ≡ answered (first ts) done refused
+unfolding answered
+answer-refused ts n done refused h e = sym (ap (λ (b : Bool). cond b done refused) (ap (λ (m : ℕ). eqb m 0) e ∙ ne-eqb n 0 (λ e. omega arith)))
+
+pub answer-done : {A : Type 0} (ts : List Try) (done refused : A) → first ts ≡ 0 → done ≡ answered (first ts) done refused
+unfolding answered
+answer-done ts done refused e = sym (ap (λ (b : Bool). cond b done refused) (eq-eqb (first ts) 0 e))

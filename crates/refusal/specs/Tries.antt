@@ -30,3 +30,7 @@ NoneHolds (t ∷ ts) = (t .passes ≡ true) × NoneHolds ts
 -- after them; where it refuses, what stood there
 unfoldable pub written : ℕ → List ℕ → List ℕ → List ℕ
 written n bytes out = cond (eqb n 0) (bytes ++ drop (length bytes) out) out
+
+-- what a call by value answers with: what it makes where it does not refuse, and else what is said for a refusal
+unfoldable pub answered : {A : Type 0} → ℕ → A → A → A
+answered n done refused = cond (eqb n 0) done refused

@@ -5,4 +5,5 @@ pub mod Steps
 pub mod Written
 pub mod Padded
 pub mod Stages
+pub mod Keys
 pub mod Claims

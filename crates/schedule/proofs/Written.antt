@@ -17,9 +17,13 @@ use Rattle.schedule.proofs.ColumnRule.{rule-fill}
 abbrev pub put-column : List ℕ → ℕ → ℕ → ℕ → ℕ → List ℕ
 put-column k j x y z = set (set (set k (3 * j) x) (3 * j + 1) y) (3 * j + 2) z
 
--- the linearStep in one pass: what it has in row i, column j
+-- the column rule with m over what g has in row i, column j
+abbrev pub ruled : ℕ → (ℕ → ℕ → ℕ) → ℕ → ℕ → ℕ
+ruled m g i j = ruleByte m (g i j) (g 0 j) (g 1 j) (g 2 j)
+
+-- the linear step in one pass: what it has in row i, column j
 abbrev pub stepped : ℕ → List ℕ → ℕ → ℕ → ℕ
-stepped n k i j = ruleByte cubeRoot (cell k i (byRow i j (next n j) (previous n j))) (cell k 0 j) (cell k 1 (next n j)) (cell k 2 (previous n j))
+stepped n k = ruled cubeRoot (λ i j. cell k i (byRow i j (next n j) (previous n j)))
 
 pub step-once : (n : ℕ) (k : List ℕ) → linearStep n k ≡ fill n (stepped n k)
 unfolding linearStep moved
@@ -47,11 +51,11 @@ put-padded f j h =
     e : 24 - length (fill j f) ≡ suc (suc (suc (24 - length (fill (suc j) f))))
     e = omega (arith, length-columns f 0 j, length-columns f 0 (suc j))
 
--- one more column of the linearStep
-pub stepped-column : (n j : ℕ) (k out : List ℕ) (a b d m : ℕ) → j < 8 → out ≡ padded (fill j (stepped n k))
-    → a ≡ cell k 0 j → b ≡ cell k 1 (next n j) → d ≡ cell k 2 (previous n j) → m ≡ times cubeRoot (a ⊕ (b ⊕ d))
-    → put-column out j (a ⊕ m) (b ⊕ m) (d ⊕ m) ≡ padded (fill (j + 1) (stepped n k))
-stepped-column n j k out a b d m h eo ea eb ed em = cc (put-padded (stepped n k) j h, add-one j)
+-- one more column of the column rule
+pub ruled-column : (m : ℕ) (g : ℕ → ℕ → ℕ) (j : ℕ) (out : List ℕ) (x y z a : ℕ) → j < 8 → out ≡ padded (fill j (ruled m g))
+    → x ≡ g 0 j → y ≡ g 1 j → z ≡ g 2 j → a ≡ times m (x ⊕ (y ⊕ z))
+    → put-column out j (x ⊕ a) (y ⊕ a) (z ⊕ a) ≡ padded (fill (j + 1) (ruled m g))
+ruled-column m g j out x y z a h eo ex ey ez ea = cc (put-padded (ruled m g) j h, add-one j)
 
 -- one more column of any stage
 pub written-column : (f : ℕ → ℕ → ℕ) (j : ℕ) (out : List ℕ) (x y z : ℕ) → j < 8 → out ≡ padded (fill j f) → x ≡ f 0 j → y ≡ f 1 j → z ≡ f 2 j

@@ -1,4 +1,4 @@
-// What the column rule of the linear step adds to each byte of a column, and what its inverse adds.
+// What the column rule of the linear step adds to each byte of a column.
 
 ghost use mathlib.Core.Path.{_≡_};
 ghost use Rattle.field.specs.Field.{_⊕_, times, cubeRoot};
@@ -8,12 +8,4 @@ pub fn column_term(x: u8, y: u8, z: u8) -> u8
     ensures { λ r. ⌜ r ≡ times cubeRoot (x ⊕ (y ⊕ z)) ⌝ }
 {
     field::times_c(x ^ (y ^ z))
-}
-
-// c + 1 times the sum of the column.
-pub fn inverse_column_term(x: u8, y: u8, z: u8) -> u8
-    ensures { λ r. ⌜ r ≡ times (cubeRoot ⊕ 1) (x ⊕ (y ⊕ z)) ⌝ }
-{
-    let s = x ^ (y ^ z);
-    field::times_c(s) ^ s
 }

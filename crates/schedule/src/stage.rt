@@ -9,7 +9,7 @@ ghost use Rattle.sizes.specs.Sizes.{Sized};
 use crate::column::column_term;
 
 // The column after j around n columns.
-fn next_column(n: usize, j: usize) -> usize
+pub fn next_column(n: usize, j: usize) -> usize
     requires { ⌜ j < n ⌝ }
     ensures { λ r. ⌜ Place r (next n j) n ⌝ }
 {
@@ -17,7 +17,7 @@ fn next_column(n: usize, j: usize) -> usize
 }
 
 // The column before j around n columns.
-fn previous_column(n: usize, j: usize) -> usize
+pub fn previous_column(n: usize, j: usize) -> usize
     requires { ⌜ j < n ⌝ }
     ensures { λ r. ⌜ Place r (previous n j) n ⌝ }
 {
@@ -25,7 +25,7 @@ fn previous_column(n: usize, j: usize) -> usize
 }
 
 // The byte in row i, column j.
-fn byte_at(k: &[u8; 24], i: usize, j: usize) -> u8
+pub fn byte_at(k: &[u8; 24], i: usize, j: usize) -> u8
     requires { ⌜ (i < 3) × (j < 8) ⌝ }
     ensures { λ r. ⌜ r ≡ cell (now (k .entry)) i j ⌝ }
 {
@@ -54,7 +54,7 @@ pub fn linear_step(t: usize, k: [u8; 24]) -> [u8; 24]
 }
 
 // A stage plus constant s, which has zeros in rows 1 and 2.
-fn add_constant(t: usize, s: usize, k: [u8; 24]) -> [u8; 24]
+pub fn add_constant(t: usize, s: usize, k: [u8; 24]) -> [u8; 24]
     requires { ⌜ Sized t × ((0 < s) × (s < 6 * t)) ⌝ }
     ensures { λ r. ⌜ r ≡ padded (plus (2 * t) k (constant t s)) ⌝ }
 {

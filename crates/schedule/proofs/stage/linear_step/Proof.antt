@@ -2,8 +2,10 @@
 use mathlib.Core.Path.{_≡_, refl, sym, ap, _∙_}
 use Prim.Native.Nat.{ℕ, _-_, _*_, _≤_}
 use native.Mathlib.Omega.{arith}
+use Rattle.field.specs.Field.{cubeRoot}
 use Rattle.schedule.specs.Columns.{cell, columns, fill, padded}
-use Rattle.schedule.proofs.Written.{stepped, step-once, stepped-column}
+use Rattle.schedule.specs.Stages.{next, previous, byRow}
+use Rattle.schedule.proofs.Written.{stepped, step-once, ruled-column}
 use borrow.Author.Needs.{needs}
 use Rattle.schedule.proofs.stage.linear_step.Statement.{statement}
 use Rattle.schedule.proofs.stage.linear_step.Tie as tie
@@ -71,11 +73,12 @@ loop-less c = search needs
 
 loop-again : tie.Need-loop-again Inv-loop μ-loop
 loop-again c =
-    let k = c .before .before .before .before .before .before .before .before .before .before .before .args .t2 in (
+    let k = c .before .before .before .before .before .before .before .before .before .before .before .args .t2 in
+    let n = 2 * c .before .before .before .before .before .before .before .before .before .before .before .args .t in (
       refl,
       (
         search needs,
-        stepped-column (2 * c .before .before .before .before .before .before .before .before .before .before .before .args .t) (c .before .before .before .before .before .before .before .before .before .before .loop .j) k (c .before .before .before .before .before .before .before .before .before .before .loop .out)
+        ruled-column cubeRoot (λ i j. cell k i (byRow i j (next n j) (previous n j))) (c .before .before .before .before .before .before .before .before .before .before .loop .j) (c .before .before .before .before .before .before .before .before .before .before .loop .out)
             (c .before .before .before .before .before .before .before .byte-at .result) (c .before .before .before .before .byte-at2 .result) (c .before .byte-at3 .result) (c .column-term .result)
             (omega arith) (c .before .before .before .before .before .before .before .before .before .before .loop .inv .1 .1)
             (c .before .before .before .before .before .before .before .byte-at .ensures)

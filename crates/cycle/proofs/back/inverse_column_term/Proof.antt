@@ -1,12 +1,12 @@
--- `schedule::column::inverse_column_term` meets its contract.
+-- `cycle::back::inverse_column_term` meets its contract.
 use mathlib.Core.Path.{ap, _∙_}
 use Prim.Native.Nat.{ℕ}
 use Rattle.field.specs.Field.{_⊕_}
 use Rattle.field.proofs.Addition.{byte}
 use Rattle.schedule.proofs.ColumnRule.{times-inverse}
 use borrow.Author.Needs.{needs}
-use Rattle.schedule.proofs.column.inverse_column_term.Statement.{statement}
-use Rattle.schedule.proofs.column.inverse_column_term.Tie as tie
+use Rattle.cycle.proofs.back.inverse_column_term.Statement.{statement}
+use Rattle.cycle.proofs.back.inverse_column_term.Tie as tie
 
 times-c-requires : tie.Need-times-c-requires
 times-c-requires c κs = search needs

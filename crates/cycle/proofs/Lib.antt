@@ -1,0 +1,4 @@
+pub mod Addends
+pub mod Around
+pub mod Agree
+pub mod Claims

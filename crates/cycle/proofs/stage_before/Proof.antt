@@ -1,0 +1,54 @@
+-- `cycle::stage_before` meets its contract.
+use mathlib.Core.Path.{_≡_, refl, sym, ap, _∙_}
+use mathlib.Core.List.{List}
+use Prim.Native.Nat.{ℕ, _*_}
+use native.Mathlib.Omega.{arith}
+use Rattle.schedule.specs.Columns.{plus, padded}
+use Rattle.schedule.specs.Stages.{inverseStep, moved}
+use Rattle.schedule.proofs.Columns.{length-columns}
+use Rattle.schedule.proofs.Padded.{padded-agrees, plus-agrees}
+use Rattle.cycle.specs.Cycle.{stageBefore}
+use Rattle.cycle.proofs.Addends.{addend-to, addend-to-first}
+use borrow.Author.Needs.{needs}
+use Rattle.cycle.proofs.stage_before.Statement.{statement}
+use Rattle.cycle.proofs.stage_before.Tie as tie
+
+-- a sum over the inverse step in 24 bytes
+summed : (t : ℕ) (k x a : List ℕ) → x ≡ padded (inverseStep (2 * t) k) → padded (plus (2 * t) x a) ≡ padded (plus (2 * t) (inverseStep (2 * t) k) a)
+unfolding inverseStep moved
+summed t k x a e =
+    let y = inverseStep (2 * t) k in
+    ap (λ (x : List ℕ). padded (plus (2 * t) x a)) e
+    ∙ ap padded (plus-agrees (2 * t) (padded y) a y a (padded-agrees (2 * t) y (length-columns _ 0 (2 * t))) (λ i j hi hj. refl))
+
+inverse-step-requires : tie.Need-inverse-step-requires
+inverse-step-requires c κs = search needs
+
+add-constant-requires : tie.Need-add-constant-requires
+add-constant-requires c κs = search needs
+
+returns : tie.Need-returns
+unfolding stageBefore
+returns c =
+    let t = c .before .before .before .args .t in
+    let s = c .before .before .before .args .s in
+    let k = c .before .before .before .args .k in
+    c .add-constant .ensures ∙ summed t k _ _ (c .before .before .inverse-step .ensures)
+    ∙ ap (λ (a : List ℕ). padded (plus (2 * t) (inverseStep (2 * t) k) a)) (sym (addend-to t s (omega arith) (omega arith)))
+
+add-closing-requires : tie.Need-add-closing-requires
+add-closing-requires c κs = search needs
+
+returns-2 : tie.Need-returns-2
+unfolding stageBefore
+returns-2 c =
+    let t = c .before .before .before .args .t in
+    let s = c .before .before .before .args .s in
+    let k = c .before .before .before .args .k in
+    c .add-closing .ensures ∙ summed t k _ _ (c .before .before .inverse-step .ensures)
+    ∙ ap (λ (a : List ℕ). padded (plus (2 * t) (inverseStep (2 * t) k) a)) (sym (addend-to-first t s (omega arith) (omega arith)))
+
+pub stage-before-spec : {M : Type 1} → statement M
+stage-before-spec =
+    tie.close
+    (tie.spec inverse-step-requires add-constant-requires returns add-closing-requires returns-2)

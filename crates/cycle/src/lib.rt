@@ -1,0 +1,53 @@
+// The stages as a cycle: the stage after another and the one before it, around the turn of 6t stages. A stage of 2t columns is kept in
+// 24 bytes, with zeros past it.
+
+mod back;
+mod closing;
+
+ghost use mathlib.Core.Path.{_≡_};
+ghost use Prim.Native.Nat.{_*_, _<_};
+ghost use Rattle.schedule.specs.Columns.{padded};
+ghost use Rattle.sizes.specs.Sizes.{Sized};
+ghost use Rattle.cycle.specs.Cycle.{following, preceding, stageAfter, stageBefore};
+use back::inverse_step;
+use closing::add_closing;
+
+// The number after s around the turn.
+pub fn number_after(t: usize, s: usize) -> usize
+    requires { ⌜ Sized t × (s < 6 * t) ⌝ }
+    ensures { λ r. ⌜ r ≡ following t s ⌝ }
+{
+    if s + 1 < 6 * t { s + 1 } else { 0 }
+}
+
+// The number before s around the turn.
+pub fn number_before(t: usize, s: usize) -> usize
+    requires { ⌜ Sized t × (s < 6 * t) ⌝ }
+    ensures { λ r. ⌜ r ≡ preceding t s ⌝ }
+{
+    if 0 < s { s - 1 } else { 6 * t - 1 }
+}
+
+// The stage after stage s, which is k.
+pub fn stage_after(t: usize, s: usize, k: [u8; 24]) -> [u8; 24]
+    requires { ⌜ Sized t × (s < 6 * t) ⌝ }
+    ensures { λ r. ⌜ r ≡ padded (stageAfter t s k) ⌝ }
+{
+    if s + 1 < 6 * t {
+        return schedule::next_stage(t, s + 1, k);
+    }
+    let sum = add_closing(t, k);
+    schedule::linear_step(t, sum)
+}
+
+// The stage before stage s, which is k.
+pub fn stage_before(t: usize, s: usize, k: [u8; 24]) -> [u8; 24]
+    requires { ⌜ Sized t × (s < 6 * t) ⌝ }
+    ensures { λ r. ⌜ r ≡ padded (stageBefore t s k) ⌝ }
+{
+    let sum = inverse_step(t, k);
+    if 0 < s {
+        return schedule::add_constant(t, s, sum);
+    }
+    add_closing(t, sum)
+}

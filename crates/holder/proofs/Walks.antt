@@ -1,0 +1,82 @@
+-- What a walk answers: nothing new where it refuses, and else the shorter way's steps, taken one after the other.
+use mathlib.Core.Path.{_≡_, sym, ap, ap₂, _∙_}
+use mathlib.Core.Bool.{Bool, true, cond}
+use mathlib.Core.List.{[]}
+use Prim.Native.Nat.{ℕ, _+_, _-_, _*_, _/_, _%_, _≤_, _<_}
+use native.Mathlib.Omega.{arith}
+use borrow.Author.Tests.{lt-ltb, le-leb, lt-leb}
+use Rattle.refusal.proofs.Tries.{first-passes, none-given}
+use Rattle.refusal.proofs.Answers.{answer-refused, answer-done}
+use Rattle.sizes.specs.Sizes.{turn}
+use Rattle.period.specs.Repeated.{repeated}
+use Rattle.holder.specs.declared.Holder.{Holder}
+use Rattle.holder.specs.declared.Way.{Way}
+use Rattle.holder.specs.declared.Way.the-variants.{Forward, Back}
+use Rattle.holder.specs.Holder.{sizeHeld, whole, stepped, stepsForward, ringDistance, wayTo, walked}
+use Rattle.holder.specs.Calls.{walkTries, walkNumber, walkHolder, walkSteps, walkWay}
+use Rattle.holder.proofs.Whole.{a-whole, turn-held}
+
+-- ---- the shorter way
+pub ring-forward : (t s d : ℕ) → stepsForward t s d ≤ 3 * t → (ringDistance t s d ≡ stepsForward t s d) × (wayTo t s d ≡ Forward)
+unfolding ringDistance wayTo
+ring-forward t s d h =
+    let e = le-leb (stepsForward t s d) (3 * t) h in
+    (ap (λ (b : Bool). cond b (stepsForward t s d) (turn t - stepsForward t s d)) e, ap (λ (b : Bool). cond b Forward Back) e)
+
+pub ring-back : (t s d : ℕ) → 3 * t < stepsForward t s d → (ringDistance t s d ≡ turn t - stepsForward t s d) × (wayTo t s d ≡ Back)
+unfolding ringDistance wayTo
+ring-back t s d h =
+    let e = lt-leb (stepsForward t s d) (3 * t) h in
+    (ap (λ (b : Bool). cond b (stepsForward t s d) (turn t - stepsForward t s d)) e, ap (λ (b : Bool). cond b Forward Back) e)
+
+-- ---- the answers
+-- what the call's contract says of the holder, the steps and the direction
+abbrev pub Answers : Holder → ℕ → Holder → ℕ → Way → Type 0
+Answers h d r steps way = (r ≡ walkHolder h d) × ((steps ≡ walkSteps h d) × ((way ≡ walkWay h d) × (steps ≤ 3 * sizeHeld h)))
+
+module _ (h : Holder) (d : ℕ) where
+  pub walk-refused : (n : ℕ) → 0 < n → walkNumber h d ≡ n → Answers h d h 0 Forward
+  unfolding walkHolder walkSteps walkWay
+  walk-refused n p e = (
+    answer-refused (walkTries h d) n (walked h d) h p e,
+    (
+      answer-refused (walkTries h d) n (ringDistance (sizeHeld h) (h .number) d) 0 p e,
+      (answer-refused (walkTries h d) n (wayTo (sizeHeld h) (h .number) d) Forward p e, omega arith),
+    ),
+  )
+
+  walk-done : (steps : ℕ) (way : Way) → walkNumber h d ≡ 0 → ringDistance (sizeHeld h) (h .number) d ≡ steps → wayTo (sizeHeld h) (h .number) d ≡ way
+      → steps ≤ 3 * sizeHeld h → Answers h d (repeated steps (stepped way) h) steps way
+  unfolding walkHolder walkSteps walkWay walked
+  walk-done steps way e es ew most = (
+    ap₂ (λ (m : ℕ) (w : Way). repeated m (stepped w) h) (sym es) (sym ew) ∙ answer-done (walkTries h d) (walked h d) h e,
+    (
+      sym es ∙ answer-done (walkTries h d) (ringDistance (sizeHeld h) (h .number) d) 0 e,
+      (sym ew ∙ answer-done (walkTries h d) (wayTo (sizeHeld h) (h .number) d) Forward e, most),
+    ),
+  )
+
+  module _ (w : whole h ≡ true) (b : d < h .length) where
+    pub walk-allowed : walkNumber h d ≡ 0
+    walk-allowed =
+        let t = turn-held h (a-whole h w) in
+        first-passes _ _ w ∙ first-passes _ [] (lt-ltb d (turn (sizeHeld h)) (omega arith)) ∙ none-given [] tt
+
+    -- the code counts around the key's length, which is the turn
+    counted : (d + (h .length - h .number)) % h .length ≡ stepsForward (sizeHeld h) (h .number) d
+    counted = ap (λ (n : ℕ). (d + (n - h .number)) % n) (sym (turn-held h (a-whole h w)))
+
+    pub walk-forward : (f : ℕ) → f ≡ (d + (h .length - h .number)) % h .length → f ≤ h .length / 2 → Answers h d (repeated f (stepped Forward) h) f Forward
+    walk-forward f e l =
+        let t = turn-held h (a-whole h w) in
+        let z : f ≡ stepsForward (sizeHeld h) (h .number) d = e ∙ counted in
+        let r = ring-forward (sizeHeld h) (h .number) d (omega arith) in
+        walk-done f Forward walk-allowed (r .0 ∙ sym z) (r .1) (omega arith)
+
+    pub walk-back : (f : ℕ) → f ≡ (d + (h .length - h .number)) % h .length → h .length / 2 < f
+        → Answers h d (repeated (h .length - f) (stepped Back) h) (h .length - f) Back
+    walk-back f e l =
+        let t = turn-held h (a-whole h w) in
+        let z : f ≡ stepsForward (sizeHeld h) (h .number) d = e ∙ counted in
+        let r = ring-back (sizeHeld h) (h .number) d (omega arith) in
+        walk-done (h .length - f) Back walk-allowed (r .0 ∙ ap₂ _-_ t (sym z)) (r .1) (omega arith)

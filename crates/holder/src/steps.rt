@@ -1,0 +1,96 @@
+// Whole holders, and steps on them.
+
+ghost use mathlib.Core.Path.{_≡_};
+ghost use mathlib.Core.Bool.{true};
+ghost use lib.ListN.{drop};
+ghost use Rattle.period.specs.Repeated.{repeated};
+ghost use Rattle.holder.specs.Holder.{allZero, whole, onward, backward, stepped};
+use crate::Holder;
+use crate::Way;
+
+// Every byte from n on is zero.
+fn zeros_from(bytes: &[u8], n: usize) -> bool
+    ensures { λ r. ⌜ r ≡ allZero (drop n (now (bytes .entry))) ⌝ }
+{
+    let mut i = n;
+    while i < bytes.len() {
+        if bytes[i] != 0 {
+            return false;
+        }
+        i += 1;
+    }
+    true
+}
+
+// A holder that is not refused with 24. The turn is as long as the key.
+pub fn is_whole(h: Holder) -> bool
+    ensures { λ r. ⌜ r ≡ whole h ⌝ }
+{
+    let length = h.length;
+    let number = h.number;
+    let bytes = h.bytes;
+    if !sizes::is_key_length(length) {
+        return false;
+    }
+    if length <= number {
+        return false;
+    }
+    zeros_from(&bytes, length)
+}
+
+fn step_on(h: Holder) -> Holder
+    requires { ⌜ whole h ≡ true ⌝ }
+    ensures { λ r. ⌜ r ≡ onward h ⌝ }
+{
+    let length = h.length;
+    let number = h.number;
+    let t = length / 6;
+    let bytes = h.bytes;
+    let next = cycle::stage_after(t, number, bytes);
+    Holder {
+        length,
+        number: cycle::number_after(t, number),
+        bytes: next,
+    }
+}
+
+fn step_back(h: Holder) -> Holder
+    requires { ⌜ whole h ≡ true ⌝ }
+    ensures { λ r. ⌜ r ≡ backward h ⌝ }
+{
+    let length = h.length;
+    let number = h.number;
+    let t = length / 6;
+    let bytes = h.bytes;
+    let next = cycle::stage_before(t, number, bytes);
+    Holder {
+        length,
+        number: cycle::number_before(t, number),
+        bytes: next,
+    }
+}
+
+pub fn step(way: Way, h: Holder) -> Holder
+    requires { ⌜ whole h ≡ true ⌝ }
+    ensures { λ r. ⌜ r ≡ stepped way h ⌝ }
+{
+    match way {
+        Way::Forward => step_on(h),
+        Way::Back => step_back(h),
+    }
+}
+
+// As many steps as told, one after the other.
+pub fn steps(way: Way, count: usize, h: Holder) -> Holder
+    requires { ⌜ whole h ≡ true ⌝ }
+    ensures { λ r. ⌜ r ≡ repeated count (stepped way) h ⌝ }
+{
+    let mut at = h;
+    let mut i: usize = 0;
+    while i < count {
+        let next = step(way, at);
+        at = next;
+        i += 1;
+    }
+    at
+}
