@@ -1,5 +1,5 @@
 -- The stages of a key follow each other around the turn, and the steps undo each other on every stage.
-use mathlib.Core.Path.{_≡_, refl, sym, ap, ap₂, _∙_, subst}
+use mathlib.Core.Path.{_≡_, refl, sym, ap, ap₂, _∙_}
 use mathlib.Core.Logic.{inl, inr}
 use mathlib.Core.List.{List}
 use Prim.Native.Nat.{ℕ, zero, suc, _-_, _*_, _<_}
@@ -7,7 +7,7 @@ use native.Mathlib.Nat.{eq-or-lt-of-le}
 use native.Mathlib.Omega.{arith}
 use Rattle.sizes.specs.Sizes.{Sized, turn}
 use Rattle.schedule.specs.Columns.{IsStage, plus}
-use Rattle.schedule.specs.Stages.{linearStep, inverseStep, constant, stage, closingSum}
+use Rattle.schedule.specs.Stages.{linearStep, constant, stage, closingSum}
 use Rattle.schedule.proofs.Steps.{plus-stage, step-stage, inverseStep-stage, inverse-step, step-inverse, plus-undone}
 use Rattle.schedule.proofs.Stages.{stage-stage}
 use Rattle.period.proofs.Closing.{closed}

@@ -1,5 +1,5 @@
 -- Whole holders: what the test says of one, and that steps keep it.
-use mathlib.Core.Path.{_≡_, refl, sym, ap, _∙_, subst}
+use mathlib.Core.Path.{_≡_, _∙_}
 use mathlib.Core.Bool.{Bool, true, false, _&&_}
 use mathlib.Core.List.{List}
 use Prim.Native.Nat.{ℕ, _*_, _≤_, _<_}
@@ -8,9 +8,9 @@ use lib.Dec.{ltb}
 use lib.ListN.{length, drop}
 use borrow.Author.Tests.{ltb-true, lt-ltb, le-ltb}
 use Rattle.refusal.proofs.Tests.{and-first, and-second}
-use Rattle.sizes.specs.Sizes.{Sized, keyLength, sizeOf, turn}
-use Rattle.schedule.specs.Columns.{plus, padded, columnRule}
-use Rattle.schedule.specs.Stages.{linearStep, moved}
+use Rattle.sizes.specs.Sizes.{Sized, keyLength, turn}
+use Rattle.schedule.specs.Columns.{columnRule}
+use Rattle.schedule.specs.Stages.{linearStep}
 use Rattle.schedule.proofs.Columns.{length-columns}
 use Rattle.schedule.proofs.Keys.{a-key}
 use Rattle.schedule.proofs.Stages.{length-plus}

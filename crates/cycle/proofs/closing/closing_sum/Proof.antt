@@ -7,7 +7,6 @@ use Rattle.field.specs.Field.{times, product, reduced}
 use Rattle.sbox.specs.Sbox.{sbox, tableP, tableQ}
 use Rattle.schedule.specs.Columns.{columns, plus, padded, columnRule}
 use Rattle.schedule.specs.Stages.{moved, linearStep, constant, stage, zeros, closingSum}
-use borrow.Author.Needs.{needs}
 use Rattle.cycle.proofs.closing.closing_sum.Statement.{statement}
 use Rattle.cycle.proofs.closing.closing_sum.Tie as tie
 

@@ -1,7 +1,6 @@
 -- `holder::stages::blank_holder` meets its contract.
 use mathlib.Core.Path.{refl}
 use Rattle.holder.specs.Holder.{blank}
-use borrow.Author.Needs.{needs}
 use Rattle.holder.proofs.stages.blank_holder.Statement.{statement}
 use Rattle.holder.proofs.stages.blank_holder.Tie as tie
 

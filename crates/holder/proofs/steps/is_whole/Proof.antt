@@ -1,6 +1,5 @@
 -- `holder::steps::is_whole` meets its contract.
 use mathlib.Core.Path.{sym, _∙_}
-use native.Mathlib.Omega.{arith}
 use borrow.Author.Tests.{not-true, not-false}
 use Rattle.holder.proofs.Whole.{not-key, not-below, below-zeros}
 use borrow.Author.Needs.{needs}

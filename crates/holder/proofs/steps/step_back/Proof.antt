@@ -1,7 +1,6 @@
 -- `holder::steps::step_back` meets its contract.
 use Rattle.holder.specs.Holder.{backward}
 use Rattle.holder.proofs.Whole.{a-whole, size-held}
-use borrow.Author.Needs.{needs}
 use Rattle.holder.proofs.steps.step_back.Statement.{statement}
 use Rattle.holder.proofs.steps.step_back.Tie as tie
 

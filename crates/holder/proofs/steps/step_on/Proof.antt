@@ -1,7 +1,6 @@
 -- `holder::steps::step_on` meets its contract.
 use Rattle.holder.specs.Holder.{onward}
 use Rattle.holder.proofs.Whole.{a-whole, size-held}
-use borrow.Author.Needs.{needs}
 use Rattle.holder.proofs.steps.step_on.Statement.{statement}
 use Rattle.holder.proofs.steps.step_on.Tie as tie
 

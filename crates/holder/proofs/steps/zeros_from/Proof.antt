@@ -1,6 +1,6 @@
 -- `holder::steps::zeros_from` meets its contract.
 use mathlib.Core.Path.{_≡_, refl, sym, _∙_}
-use Prim.Native.Nat.{_+_, _-_}
+use Prim.Native.Nat.{_-_}
 use lib.ListN.{length, drop}
 use Rattle.holder.specs.Holder.{allZero}
 use Rattle.holder.proofs.Zeros.{zero-next, not-zero, zero-end}

@@ -1,0 +1,135 @@
+-- Holders of a key at a place: they are whole, steps lead from place to place, and calls answer what they have to.
+use mathlib.Core.Path.{_≡_, refl, sym, ap, _∙_}
+use mathlib.Core.Bool.{true}
+use mathlib.Core.List.{List, []}
+use Prim.Native.Nat.{ℕ, zero, suc, _*_, _≤_, _<_}
+use native.Mathlib.Omega.{arith}
+use lib.ListN.{length}
+use borrow.Author.Tests.{lt-ltb, le-ltb}
+use Rattle.refusal.proofs.Tries.{first-passes, first-holds, none-given}
+use Rattle.refusal.proofs.Answers.{answer-done}
+use Rattle.blocks.specs.Blocks.{AreBytes, bytesOf}
+use Rattle.sizes.specs.Sizes.{keyLength, sizeOf, turn}
+use Rattle.schedule.specs.Columns.{IsStage, plus, padded}
+use Rattle.schedule.specs.Stages.{linearStep, stage, subkeyOf}
+use Rattle.schedule.proofs.Columns.{as-stage}
+use Rattle.schedule.proofs.Keys.{a-key, key-length, length-stage}
+use Rattle.schedule.proofs.Padded.{padded-agrees, plus-agrees, subkey-agrees}
+use Rattle.period.specs.Repeated.{repeated}
+use Rattle.cycle.specs.Cycle.{following, preceding, addend, stageAfter, stageBefore}
+use Rattle.cycle.proofs.Agree.{inverse-agrees}
+use Rattle.cycle.proofs.Around.{after-key, before-key}
+use Rattle.holder.specs.declared.Way.{Way}
+use Rattle.holder.specs.declared.Way.the-variants.{Forward, Back}
+use Rattle.holder.specs.Holder.{whole, holderAt, blank, onward, backward, stepped, ringDistance, wayTo, walked}
+use Rattle.holder.specs.Calls.{makeTries, makeNumber, madeHolder, straightTries, straightNumber, straightHolder, holderTries, holderNumber, stepHolder, walkTries, walkNumber, walkHolder, walkSteps, walkWay, noSubkey, subkeyHeld}
+use Rattle.holder.proofs.Whole.{is-whole}
+use Rattle.holder.proofs.Zeros.{padded-zeros}
+use Rattle.routes.proofs.Ring.{numberTo, numbers-below, arrives}
+
+-- ---- steps over a stage in 24 bytes
+padded-after : (t s : ℕ) (k : List ℕ) → length k ≡ 3 * (2 * t) → stageAfter t s (padded k) ≡ stageAfter t s k
+unfolding stageAfter
+padded-after t s k e =
+    ap (linearStep (2 * t)) (plus-agrees (2 * t) (padded k) (addend t s) k (addend t s) (padded-agrees (2 * t) k e) (λ i j hi hj. refl))
+
+padded-before : (t s : ℕ) (k : List ℕ) → length k ≡ 3 * (2 * t) → stageBefore t s (padded k) ≡ stageBefore t s k
+unfolding stageBefore
+padded-before t s k e = ap (λ (x : List ℕ). plus (2 * t) x (addend t (preceding t s))) (inverse-agrees (2 * t) (padded k) k (padded-agrees (2 * t) k e))
+
+module _ (key : List ℕ) (bytes : AreBytes key) (right : keyLength (length key) ≡ true) where
+  t : ℕ
+  t = sizeOf (length key)
+
+  is-stage : IsStage (2 * sizeOf (length key)) key
+  is-stage = as-stage (2 * sizeOf (length key)) key (key-length key right) bytes
+
+  stage-length : (n : ℕ) → length (stage (sizeOf (length key)) key n) ≡ 3 * (2 * sizeOf (length key))
+  stage-length n = length-stage (sizeOf (length key)) key (key-length key right) n
+
+  -- a holder at a place is whole
+  pub whole-at : (n : ℕ) → n < turn (sizeOf (length key)) → whole (holderAt key n) ≡ true
+  whole-at n h =
+      let e = key-length key right in
+      is-whole (holderAt key n) record { key = right; below = h; zeros = padded-zeros _ (length key) (stage-length n ∙ sym e) }
+
+  -- ---- steps
+  onward-at : (n : ℕ) → n < turn (sizeOf (length key)) → onward (holderAt key n) ≡ holderAt key (following (sizeOf (length key)) n)
+  unfolding onward t
+  onward-at n h i = record {
+    length = length key;
+    number = following t n;
+    bytes = padded ((padded-after t n (stage t key n) (stage-length n) ∙ after-key t (a-key (length key) right .sized) is-stage n h) i);
+  }
+
+  backward-at : (n : ℕ) → n < turn (sizeOf (length key)) → backward (holderAt key n) ≡ holderAt key (preceding (sizeOf (length key)) n)
+  unfolding backward t
+  backward-at n h i = record {
+    length = length key;
+    number = preceding t n;
+    bytes = padded ((padded-before t n (stage t key n) (stage-length n) ∙ before-key t (a-key (length key) right .sized) is-stage n h) i);
+  }
+
+  step-at : (way : Way) (n : ℕ) → n < turn (sizeOf (length key)) → stepped way (holderAt key n) ≡ holderAt key (numberTo (sizeOf (length key)) way n)
+  unfolding stepped numberTo
+  step-at Forward n h = onward-at n h
+  step-at Back n h = backward-at n h
+
+  pub steps-at : (way : Way) (m n : ℕ) → n < turn (sizeOf (length key))
+      → repeated m (stepped way) (holderAt key n) ≡ holderAt key (repeated m (numberTo (sizeOf (length key)) way) n)
+  unfolding t
+  steps-at way zero n h = refl
+  steps-at way (suc m) n h = ap (stepped way) (steps-at way m n h) ∙ step-at way (repeated m (numberTo t way) n) (numbers-below t way m n h)
+
+  -- ---- the calls at a place
+  module _ (n : ℕ) (h : n < turn (sizeOf (length key))) where
+    pub not-refused : holderNumber (holderAt key n) ≡ 0
+    not-refused = first-passes _ [] (whole-at n h) ∙ none-given [] tt
+
+    pub step-call : (way : Way) → stepHolder way (holderAt key n) ≡ holderAt key (numberTo (sizeOf (length key)) way n)
+    unfolding stepHolder
+    step-call way = sym (answer-done (holderTries (holderAt key n)) (stepped way (holderAt key n)) (holderAt key n) not-refused) ∙ step-at way n h
+
+    pub subkey-call : subkeyHeld (holderAt key n) ≡ bytesOf (subkeyOf (stage (sizeOf (length key)) key n))
+    unfolding subkeyHeld t
+    subkey-call =
+        sym (answer-done (holderTries (holderAt key n)) (bytesOf (subkeyOf (padded (stage t key n)))) noSubkey not-refused)
+        ∙ ap bytesOf (subkey-agrees (2 * t) (padded (stage t key n)) (stage t key n) (omega (arith, a-key (length key) right .sized .least)) (padded-agrees (2 * t) (stage t key n) (stage-length n)))
+
+    module _ (d : ℕ) where
+      pub walk-taken : d < turn (sizeOf (length key)) → walkNumber (holderAt key n) d ≡ 0
+      walk-taken b = first-passes _ _ (whole-at n h) ∙ first-passes _ [] (lt-ltb d (turn (sizeOf (length key))) b) ∙ none-given [] tt
+
+      pub walk-refused : turn (sizeOf (length key)) ≤ d → walkNumber (holderAt key n) d ≡ 5
+      walk-refused b = first-passes _ _ (whole-at n h) ∙ first-holds _ [] (le-ltb d (turn (sizeOf (length key))) b)
+
+      pub walk-call : d < turn (sizeOf (length key)) → walkHolder (holderAt key n) d ≡ holderAt key d
+      unfolding walkHolder walked t
+      walk-call b =
+          sym (answer-done (walkTries (holderAt key n) d) (walked (holderAt key n) d) (holderAt key n) (walk-taken b))
+          ∙ steps-at (wayTo t n d) (ringDistance t n d) n h
+          ∙ ap (holderAt key) (arrives t n d h b)
+
+      pub walk-steps : d < turn (sizeOf (length key)) → walkSteps (holderAt key n) d ≡ ringDistance (sizeOf (length key)) n d
+      unfolding walkSteps
+      walk-steps b = sym (answer-done (walkTries (holderAt key n) d) (ringDistance (sizeOf (length key)) n d) 0 (walk-taken b))
+
+      pub walk-way : d < turn (sizeOf (length key)) → walkWay (holderAt key n) d ≡ wayTo (sizeOf (length key)) n d
+      unfolding walkWay
+      walk-way b = sym (answer-done (walkTries (holderAt key n) d) (wayTo (sizeOf (length key)) n d) Forward (walk-taken b))
+
+    -- the straight stage
+    pub straight-taken : straightNumber key n ≡ 0
+    straight-taken = first-passes _ _ right ∙ first-passes _ [] (lt-ltb n (turn (sizeOf (length key))) h) ∙ none-given [] tt
+
+    pub straight-call : straightHolder key n ≡ holderAt key n
+    unfolding straightHolder
+    straight-call = sym (answer-done (straightTries key n) (holderAt key n) blank straight-taken)
+
+  -- ---- the holder made
+  pub make-taken : makeNumber key ≡ 0
+  make-taken = first-passes _ [] right ∙ none-given [] tt
+
+  pub make-call : madeHolder key ≡ holderAt key 0
+  unfolding madeHolder
+  make-call = sym (answer-done (makeTries key) (holderAt key 0) blank make-taken)

@@ -1,0 +1,120 @@
+-- Every whole holder is a key's at its number, so what holds at the places of a key holds of every whole holder.
+use mathlib.Core.Path.{_≡_, refl, sym, ap, ap₂, _∙_, subst}
+use mathlib.Core.Bool.{true}
+use mathlib.Core.List.{List, [], _∷_, _++_}
+use Prim.Native.Nat.{ℕ, zero, suc, _-_, _*_, _<_}
+use native.Mathlib.Omega.{arith}
+use lib.Dec.{eqb, lit<}
+use lib.ListN.{length, take, drop, replicate, length-drop, take-append-drop}
+use lib.Seq.{length-take-le}
+use borrow.Author.Tests.{eqb-true}
+use Rattle.refusal.proofs.Tests.{and-first, and-second}
+use Rattle.refusal.proofs.Tries.{first-passes, none-given}
+use Rattle.refusal.proofs.Answers.{answer-done}
+use Rattle.blocks.specs.Blocks.{AreBytes}
+use Rattle.sizes.specs.Sizes.{keyLength, sizeOf, turn}
+use Rattle.schedule.specs.Columns.{IsStage, padded}
+use Rattle.schedule.specs.Stages.{stage}
+use Rattle.schedule.proofs.Columns.{as-stage, stage-byte}
+use Rattle.schedule.proofs.Keys.{a-key}
+use Rattle.schedule.proofs.Padded.{stage-length}
+use Rattle.period.specs.Repeated.{repeated}
+use Rattle.cycle.proofs.Around.{of-key}
+use Rattle.holder.specs.declared.Holder.{Holder}
+use Rattle.holder.specs.declared.Way.{Way}
+use Rattle.holder.specs.Holder.{sizeHeld, allZero, whole, holderAt, stepped}
+use Rattle.holder.specs.Calls.{holderTries, holderNumber, stepHolder}
+use Rattle.holder.proofs.Whole.{a-whole, turn-held, step-whole}
+use Rattle.routes.specs.Claims.{Turned}
+use Rattle.routes.proofs.Ring.{full-turn}
+use Rattle.routes.proofs.At.{steps-at}
+
+-- ---- a whole holder's bytes are its stage's, and zeros
+all-zero : (bs : List ℕ) → allZero bs ≡ true → bs ≡ replicate (length bs) 0
+unfolding allZero
+all-zero [] e = refl
+all-zero (b ∷ bs) e =
+    ap₂ {C = List ℕ} (λ x xs. x ∷ xs) (eqb-true b 0 (and-first (eqb b 0) (allZero bs) e)) (all-zero bs (and-second (eqb b 0) (allZero bs) e))
+
+take-bytes : (n : ℕ) (bs : List ℕ) → AreBytes bs → AreBytes (take n bs)
+take-bytes zero bs h i = lit< tt
+take-bytes (suc n) [] h i = lit< tt
+take-bytes (suc n) (b ∷ bs) h zero = h 0
+take-bytes (suc n) (b ∷ bs) h (suc i) = take-bytes n bs (λ j. h (suc j)) i
+
+-- a key of which a holder is at its number
+pub record Key (h : Holder) : Type 0 where
+  pub key : List ℕ
+  pub bytes : AreBytes key
+  pub right : keyLength (length key) ≡ true
+  pub size : sizeOf (length key) ≡ sizeHeld h
+  pub at : h ≡ holderAt key (h .number)
+
+module _ (h : Holder) (bytes : AreBytes (h .bytes)) (all : length (h .bytes) ≡ 24) (w : whole h ≡ true) where
+  held : List ℕ
+  held = take (h .length) (h .bytes)
+
+  held-length : length held ≡ h .length
+  unfolding held
+  held-length = length-take-le (h .length) (h .bytes) (omega (arith, a-key (h .length) (a-whole h w .key) .most))
+
+  padded-held : h .bytes ≡ padded held
+  unfolding held padded
+  padded-held =
+      let n = h .length in
+      let e : length (drop n (h .bytes)) ≡ 24 - length (take n (h .bytes)) = length-drop n (h .bytes) ∙ omega (arith, held-length) in
+      sym (take-append-drop n (h .bytes)) ∙ ap (λ (x : List ℕ). take n (h .bytes) ++ x) (all-zero (drop n (h .bytes)) (a-whole h w .zeros) ∙ ap (λ (m : ℕ). replicate m 0) e)
+
+  held-stage : IsStage (2 * sizeHeld h) held
+  unfolding held
+  held-stage = as-stage (2 * sizeHeld h) (take (h .length) (h .bytes)) (held-length ∙ omega (arith, turn-held h (a-whole h w))) (take-bytes (h .length) (h .bytes) bytes)
+
+  pub key-of : Key h
+  key-of =
+      let o = of-key (sizeHeld h) (h .number) (a-whole h w .below) held-stage in
+      let l : length (o .key) ≡ h .length = stage-length (2 * sizeHeld h) (o .is) ∙ omega (arith, turn-held h (a-whole h w)) in
+      let z : sizeOf (length (o .key)) ≡ sizeHeld h = ap sizeOf l in
+      record {
+        key = o .key;
+        bytes = stage-byte (2 * sizeHeld h) (o .is);
+        right = ap keyLength l ∙ a-whole h w .key;
+        size = z;
+        at = λ i. record {
+          length = sym l i;
+          number = h .number;
+          bytes = (padded-held ∙ ap padded (sym (o .gives)) ∙ ap (λ (t : ℕ). padded (stage t (o .key) (h .number))) (sym z)) i;
+        };
+      }
+
+-- ---- steps of the calls are steps
+steps-whole : (way : Way) (m : ℕ) (h : Holder) → whole h ≡ true → whole (repeated m (stepped way) h) ≡ true
+steps-whole way zero h w = w
+steps-whole way (suc m) h w = step-whole way _ (steps-whole way m h w)
+
+not-refused : (h : Holder) → whole h ≡ true → holderNumber h ≡ 0
+not-refused h w = first-passes _ [] w ∙ none-given [] tt
+
+call-step : (way : Way) (h : Holder) → whole h ≡ true → stepHolder way h ≡ stepped way h
+unfolding stepHolder
+call-step way h w = sym (answer-done (holderTries h) (stepped way h) h (not-refused h w))
+
+call-steps : (way : Way) (m : ℕ) (h : Holder) → whole h ≡ true → repeated m (stepHolder way) h ≡ repeated m (stepped way) h
+call-steps way zero h w = refl
+call-steps way (suc m) h w = ap (stepHolder way) (call-steps way m h w) ∙ call-step way (repeated m (stepped way) h) (steps-whole way m h w)
+
+-- ---- a full turn
+turned-key : (way : Way) (h : Holder) → whole h ≡ true → Key h → repeated (turn (sizeHeld h)) (stepped way) h ≡ h
+turned-key way h w k =
+    let n = h .number in
+    let t = sizeOf (length (k .key)) in
+    let b : n < turn t = subst (λ (x : ℕ). n < turn x) (sym (k .size)) (a-whole h w .below) in
+    ap₂ (λ (x : ℕ) (y : Holder). repeated (turn x) (stepped way) y) (sym (k .size)) (k .at)
+    ∙ steps-at (k .key) (k .bytes) (k .right) way (turn t) n b
+    ∙ ap (holderAt (k .key)) (full-turn t way n b)
+    ∙ sym (k .at)
+
+pub turned : (h : Holder) → AreBytes (h .bytes) → length (h .bytes) ≡ 24 → whole h ≡ true → (way : Way) → Turned h way
+turned h bytes all w way = record {
+  taken = λ m. ap holderNumber (call-steps way m h w) ∙ not-refused (repeated m (stepped way) h) (steps-whole way m h w);
+  home = call-steps way (turn (sizeHeld h)) h w ∙ turned-key way h w (key-of h bytes all w);
+}

@@ -1,0 +1,5 @@
+pub mod Ring
+pub mod At
+pub mod Routes
+pub mod Held
+pub mod Claims
