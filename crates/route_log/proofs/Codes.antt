@@ -1,0 +1,22 @@
+-- Bytes as calls.
+use mathlib.Core.Path.{_≡_, ap}
+use Prim.Native.Nat.{ℕ}
+use borrow.Author.Tests.{ne-eqb}
+use Rattle.routes.specs.Routes.{forward, back, subkey, walk}
+use Rattle.route_log.specs.Log.{callOf}
+
+pub code-forward : (b : ℕ) → b ≡ 253 → callOf b ≡ forward
+unfolding callOf
+code-forward b e = ap callOf e
+
+pub code-back : (b : ℕ) → b ≡ 254 → callOf b ≡ back
+unfolding callOf
+code-back b e = ap callOf e
+
+pub code-subkey : (b : ℕ) → b ≡ 255 → callOf b ≡ subkey
+unfolding callOf
+code-subkey b e = ap callOf e
+
+pub code-walk : (b : ℕ) → (b ≡ 253 → ⊥) → (b ≡ 254 → ⊥) → (b ≡ 255 → ⊥) → callOf b ≡ walk b
+unfolding callOf
+code-walk b f g h = rw (ne-eqb b 253 f, ne-eqb b 254 g, ne-eqb b 255 h)

@@ -1,0 +1,146 @@
+// A list of calls in bytes, run on a holder freshly made from a key, with every answer written to a lent log.
+
+ghost use mathlib.Core.Path.{_≡_};
+ghost use mathlib.Core.List.{_++_};
+ghost use Prim.Native.Nat.{_+_, _≤_};
+ghost use lib.ListN.{length, take, drop, replicate};
+ghost use Rattle.refusal.specs.Reasons.{outcomeNumber};
+ghost use Rattle.routes.specs.Routes.{returned, answer};
+ghost use Rattle.route_log.specs.Log.{callOf, loggedOf, wayNumber, rowOf, runNumber, runHolder, runLog};
+use crate::Logged;
+use holder::Held;
+use holder::Holder;
+use holder::Way;
+use refusal::Outcome;
+use refusal::Reason;
+
+pub const FORWARD: u8 = 253;
+
+pub const BACK: u8 = 254;
+
+pub const SUBKEY: u8 = 255;
+
+// What a step leaves to be logged.
+fn step_row(r: Held) -> Logged
+    ensures { λ x. ⌜ x ≡ record { number = outcomeNumber (r .outcome); steps = 0; way = Way.Forward; subkey = replicate 12 0; holder = r .holder } ⌝ }
+{
+    let outcome = r.outcome;
+    let holder = r.holder;
+    Logged {
+        number: refusal::outcome_number(outcome),
+        steps: 0,
+        way: Way::Forward,
+        subkey: [0u8; 12],
+        holder,
+    }
+}
+
+// One call of the list.
+fn call(code: u8, h: Holder) -> Logged
+    ensures { λ r. ⌜ r ≡ loggedOf (answer (callOf code) h) (returned (callOf code) h) ⌝ }
+{
+    if code == FORWARD {
+        return step_row(holder::forward(h));
+    }
+    if code == BACK {
+        return step_row(holder::back(h));
+    }
+    if code == SUBKEY {
+        let g = holder::subkey(h);
+        let outcome = g.outcome;
+        let subkey = g.subkey;
+        return Logged {
+            number: refusal::outcome_number(outcome),
+            steps: 0,
+            way: Way::Forward,
+            subkey,
+            holder: h,
+        };
+    }
+    let w = holder::walk(h, code as usize);
+    let outcome = w.outcome;
+    let left = w.holder;
+    let way = w.way;
+    Logged {
+        number: refusal::outcome_number(outcome),
+        steps: w.steps,
+        way,
+        subkey: [0u8; 12],
+        holder: left,
+    }
+}
+
+// Bytes put at a place of a lent slice.
+fn put(out: &mut [u8], at: usize, bytes: &[u8])
+    requires { ⌜ at + length (now bytes) ≤ length (now out) ⌝ }
+    ensures { λ _. ⌜ now (out .exit) ≡ take at (now (out .entry)) ++ (now (bytes .entry) ++ drop (at + length (now (bytes .entry))) (now (out .entry))) ⌝ }
+{
+    let mut i: usize = 0;
+    while i < bytes.len() {
+        out[at + i] = bytes[i];
+        i += 1;
+    }
+}
+
+fn way_byte(way: Way) -> u8
+    ensures { λ r. ⌜ r ≡ wayNumber way ⌝ }
+{
+    match way {
+        Way::Forward => 0,
+        Way::Back => 1,
+    }
+}
+
+// A row of the log.
+fn put_row(log: &mut [u8], at: usize, r: Logged)
+    requires { ⌜ (at + 41 ≤ length (now log)) × ((length (r .subkey) ≡ 12) × (length (r .holder .bytes) ≡ 24)) ⌝ }
+    ensures { λ _. ⌜ now (log .exit) ≡ take at (now (log .entry)) ++ (rowOf r ++ drop (at + 41) (now (log .entry))) ⌝ }
+{
+    let h = r.holder;
+    let way = r.way;
+    let subkey = r.subkey;
+    let bytes = h.bytes;
+    let head = [
+        (r.number % 256) as u8,
+        (r.steps % 256) as u8,
+        way_byte(way),
+        (h.length % 256) as u8,
+        (h.number % 256) as u8,
+    ];
+    put(log, at, &head);
+    put(log, at + 5, &subkey);
+    put(log, at + 17, &bytes);
+}
+
+// Runs every call of the list, in its order, by the holder's own calls.
+pub fn run(key: &[u8], calls: &[u8], log: &mut [u8]) -> Held
+    ensures { λ r. ⌜ outcomeNumber (r .outcome) ≡ runNumber (now (key .entry)) (now (calls .entry)) (now (log .entry)) ⌝ }
+    ensures { λ r. ⌜ r .holder ≡ runHolder (now (key .entry)) (now (calls .entry)) (now (log .entry)) ⌝ }
+    ensures { λ _. ⌜ now (log .exit) ≡ runLog (now (key .entry)) (now (calls .entry)) (now (log .entry)) ⌝ }
+{
+    let made = holder::make(key);
+    let outcome = made.outcome;
+    if refusal::outcome_number(outcome) != 0 {
+        return made;
+    }
+    let fresh = made.holder;
+    if log.len() / 41 < calls.len() {
+        return Held {
+            outcome: Outcome::Refused(Reason::OutputTooShort),
+            holder: fresh,
+        };
+    }
+    let mut h = fresh;
+    let mut i: usize = 0;
+    while i < calls.len() {
+        let r = call(calls[i], h);
+        put_row(log, 41 * i, r);
+        let next = r.holder;
+        h = next;
+        i += 1;
+    }
+    Held {
+        outcome: Outcome::Done,
+        holder: h,
+    }
+}
