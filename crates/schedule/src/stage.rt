@@ -104,11 +104,11 @@ pub fn stage_of_key(key: &[u8]) -> [u8; 24]
     requires { ⌜ length (now key) ≤ 24 ⌝ }
     ensures { λ r. ⌜ r ≡ padded (now (key .entry)) ⌝ }
 {
-    let mut out = [0u8; 24];
+    let mut stage = [0u8; 24];
     let mut i: usize = 0;
     while i < key.len() {
-        out[i] = key[i];
+        stage[i] = key[i];
         i += 1;
     }
-    out
+    stage
 }

@@ -13,20 +13,20 @@ use Rattle.schedule.proofs.stage.stage_of_key.Statement.{statement}
 use Rattle.schedule.proofs.stage.stage_of_key.Tie as tie
 
 abbrev Inv-loop : tie.InvT-loop
-Inv-loop key out₀ i₀ out i = (i ≤ length key) × (out ≡ padded (take i key))
+Inv-loop key stage₀ i₀ stage i = (i ≤ length key) × (stage ≡ padded (take i key))
 
 abbrev μ-loop : tie.MeasureT-loop
-μ-loop key out₀ i₀ out i = length key - i
+μ-loop key stage₀ i₀ stage i = length key - i
 
 loop-holds : tie.Need-loop-holds Inv-loop μ-loop
 unfolding padded
 loop-holds c = (omega arith, refl)
 
-shared-slice-read-out : tie.Need-shared-slice-read-out Inv-loop μ-loop
-shared-slice-read-out c = search needs
+shared-slice-read-stage : tie.Need-shared-slice-read-stage Inv-loop μ-loop
+shared-slice-read-stage c = search needs
 
-array-write-out : tie.Need-array-write-out Inv-loop μ-loop
-array-write-out c = search needs
+array-write-stage : tie.Need-array-write-stage Inv-loop μ-loop
+array-write-stage c = search needs
 
 add-i : tie.Need-add-i Inv-loop μ-loop
 add-i c = search needs
@@ -38,7 +38,7 @@ loop-again : tie.Need-loop-again Inv-loop μ-loop
 loop-again c =
     let key = now (c .before .before .before .args .key) in
     let i = c .before .before .loop .i in
-    (search needs, ap (λ (out : List ℕ). set out i (getD key i 0)) (c .before .before .loop .inv .1) ∙ padded-next key i (omega arith) (c .before .before .before .pre))
+    (search needs, ap (λ (stage : List ℕ). set stage i (getD key i 0)) (c .before .before .loop .inv .1) ∙ padded-next key i (omega arith) (c .before .before .before .pre))
 
 returns : tie.Need-returns Inv-loop μ-loop
 returns c =
@@ -53,8 +53,8 @@ stage-of-key-spec =
     Inv-loop
     μ-loop
     loop-holds
-    shared-slice-read-out
-    array-write-out
+    shared-slice-read-stage
+    array-write-stage
     add-i
     loop-less
     loop-again
