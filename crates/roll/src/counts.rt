@@ -1,0 +1,47 @@
+// A contractor's count on a roll.
+
+ghost use mathlib.Core.Path.{_≡_};
+ghost use mathlib.Core.Bool.{true};
+ghost use Prim.Native.Nat.{_<_};
+ghost use Rattle.roll.specs.Roll.{isContractor, countOf, inStanding, counted};
+use crate::Roll;
+
+pub fn is_contractor(c: u32) -> bool
+    ensures { λ r. ⌜ r ≡ isContractor c ⌝ }
+{
+    if c < 1 {
+        return false;
+    }
+    c <= 200
+}
+
+// The count of contractor 1 to 200.
+pub fn count_of(roll: Roll, c: u32) -> u16
+    requires { ⌜ isContractor c ≡ true ⌝ }
+    ensures { λ r. ⌜ r ≡ countOf roll c ⌝ }
+{
+    let counts = roll.counts;
+    let at = (c - 1) as usize;
+    counts[at]
+}
+
+// The count is odd and below 65,535.
+pub fn is_in_standing(n: u16) -> bool
+    ensures { λ r. ⌜ r ≡ inStanding n ⌝ }
+{
+    if n % 2 != 1 {
+        return false;
+    }
+    n < 65535
+}
+
+// The roll with 1 added to a contractor's count.
+pub fn add_one(roll: Roll, c: u32) -> Roll
+    requires { ⌜ (isContractor c ≡ true) × (countOf roll c < 65535) ⌝ }
+    ensures { λ r. ⌜ r ≡ counted roll c ⌝ }
+{
+    let mut counts = roll.counts;
+    let at = (c - 1) as usize;
+    counts[at] = counts[at] + 1;
+    Roll { counts }
+}
