@@ -1,13 +1,13 @@
 -- What a call has to show at each return: its number is the first that holds, and the output is as `written` says, or what it answers
 -- with as `answered` says.
-use mathlib.Core.Path.{_≡_, sym, ap, _∙_}
-use mathlib.Core.Bool.{Bool, cond}
+use mathlib.Core.Path.{_≡_, refl, sym, ap, _∙_}
+use mathlib.Core.Bool.{Bool, true, false, cond}
 use mathlib.Core.List.{List, _++_}
 use Prim.Native.Nat.{ℕ, _<_}
 use native.Mathlib.Omega.{arith}
 use lib.Dec.{eqb}
 use lib.ListN.{length, drop}
-use borrow.Author.Tests.{eq-eqb, ne-eqb}
+use borrow.Author.Tests.{eq-eqb, ne-eqb, eqb-true}
 use Rattle.refusal.specs.Tries.{Try, first, written, answered}
 
 -- a refusal changes no byte
@@ -36,3 +36,12 @@ answer-refused ts n done refused h e = sym (ap (λ (b : Bool). cond b done refus
 pub answer-done : {A : Type 0} (ts : List Try) (done refused : A) → first ts ≡ 0 → done ≡ answered (first ts) done refused
 unfolding answered
 answer-done ts done refused e = sym (ap (λ (b : Bool). cond b done refused) (eq-eqb (first ts) 0 e))
+
+-- what holds of what a call makes where it does not refuse, and of what is said for a refusal, holds of the answer
+pub answer-either : {A : Type 0} (P : A → Type 0) (n : ℕ) (done refused : A) → (n ≡ 0 → P done) → P refused → P (answered n done refused)
+unfolding answered
+answer-either P n done refused f r = by (eqb n 0) refl
+  where
+    by : (b : Bool) → eqb n 0 ≡ b → P (cond b done refused)
+    by true e = f (eqb-true n 0 e)
+    by false e = r

@@ -1,0 +1,1 @@
+// No code: histories of a roll, in specs/ and proofs/.

@@ -1,0 +1,151 @@
+-- When a check is accepted.
+use mathlib.Core.Path.{_≡_, refl, sym, ap, ap₂, _∙_}
+use mathlib.Core.Logic.{_⊎_, inl, inr}
+use mathlib.Core.Bool.{Bool, true, false, _||_}
+use mathlib.Core.List.{List}
+use Prim.Native.Nat.{ℕ, _≤_, _<_}
+use native.Mathlib.Omega.{arith}
+use lib.Dec.{eqb, lit<}
+use lib.ListN.{length}
+use borrow.Author.Tests.{eqb-true, eq-eqb}
+use Rattle.refusal.specs.Tries.{NoneHolds}
+use Rattle.refusal.specs.Claims.{Numbered}
+use Rattle.refusal.proofs.Tries.{none-holds, none-given}
+use Rattle.refusal.proofs.Answers.{answer-done}
+use Rattle.rounds.proofs.Restored.{enciphered-state}
+use Rattle.blocks.specs.Blocks.{AreBytes, stateOf}
+use Rattle.blocks.proofs.RoundTrip.{block-state}
+use Rattle.sizes.specs.Sizes.{keyLength}
+use Rattle.lists.specs.declared.Direction.the-variants.{Deciphering}
+use Rattle.lists.specs.Lists.{listFor}
+use Rattle.lists.proofs.Lists.{states-for}
+use Rattle.cipher.specs.Cipher.{cipherBlock}
+use Rattle.roll.specs.declared.Roll.{Roll}
+use Rattle.roll.specs.Roll.{isContractor, countOf, inStanding}
+use Rattle.roll.proofs.Contractors.{a-contractor, is-contractor, a-standing, is-standing}
+use Rattle.grant.specs.Grants.{isRight, plainGrant, contractorIn, countIn, blockIn, rightIn, isMarked, isGrant}
+use Rattle.grant.specs.Calls.{openedGrant, checkTries, checkNumber, checkContractor, checkRight}
+use Rattle.grant.proofs.Tests.{a-grant, is-grant}
+use Rattle.revocation.specs.Claims.{Opening, Accepted}
+use Rattle.revocation.proofs.Bytes.{reads-contractor, reads-count, reads-block, reads-right, reads-mark, written-again, state-bytes-small}
+
+-- ---- the plain bytes
+opened-twelve : (key : List ℕ) (rounds : ℕ) (grant : List ℕ) → length (openedGrant key rounds grant) ≡ 12
+unfolding openedGrant cipherBlock
+opened-twelve key rounds grant = refl
+
+opened-bytes : (key : List ℕ) → AreBytes key → (rounds : ℕ) (grant : List ℕ) → AreBytes grant → keyLength (length key) ≡ true → AreBytes (openedGrant key rounds grant)
+unfolding openedGrant cipherBlock
+opened-bytes key hk rounds grant hg k =
+    state-bytes-small (enciphered-state (listFor Deciphering key rounds) (stateOf grant) (states-for key k hk Deciphering rounds) (block-state grant hg))
+
+-- ---- rights
+pub one-or-two : (r : ℕ) → isRight r ≡ true → (r ≡ 1) ⊎ (r ≡ 2)
+one-or-two r e = by (eqb r 1) (eqb r 2) refl refl e
+  where
+    by : (a b : Bool) → eqb r 1 ≡ a → eqb r 2 ≡ b → (a || b) ≡ true → (r ≡ 1) ⊎ (r ≡ 2)
+    by true b p q e = inl (eqb-true r 1 p)
+    by false b p q e = inr (eqb-true r 2 (q ∙ e))
+
+pub is-right : (r : ℕ) → (r ≡ 1) ⊎ (r ≡ 2) → isRight r ≡ true
+is-right r h = elim h [ inl e ↦ ap isRight e | inr e ↦ ap isRight e ]
+
+-- ---- what an accepted check passed
+pub check-numbered : (key : List ℕ) (rounds : ℕ) (roll : Roll) (grant : List ℕ) (block right : ℕ) → Numbered (checkTries key rounds roll grant block right)
+check-numbered key rounds roll grant block right = (lit< tt, (lit< tt, (lit< tt, (lit< tt, (lit< tt, (lit< tt, (lit< tt, (lit< tt, (lit< tt, tt)))))))))
+
+module _ (key : List ℕ) (rounds : ℕ) (roll : Roll) (grant : List ℕ) (block right : ℕ) where
+  p : List ℕ
+  p = openedGrant key rounds grant
+
+  pub passed : checkNumber key rounds roll grant block right ≡ 0 → NoneHolds (checkTries key rounds roll grant block right)
+  passed e = none-holds (checkTries key rounds roll grant block right) (check-numbered key rounds roll grant block right) e
+
+  pub opening : AreBytes key → AreBytes grant → checkNumber key rounds roll grant block right ≡ 0 → Opening key rounds roll grant block right
+  unfolding p
+  opening hk hg e =
+      let h = passed e in
+      let k = h .0 in
+      let r = h .1 .0 in
+      let l = h .1 .1 .0 in
+      let q = h .1 .1 .1 .0 in
+      let t = h .1 .1 .1 .1 in
+      let g = a-grant p (t .0) in
+      let eb = eqb-true (blockIn p) block (t .1 .0) in
+      let er = eqb-true (rightIn p) right (t .1 .1 .0) in
+      let s = a-standing (countOf roll (contractorIn p)) (t .1 .1 .1 .0) in
+      let ec = eqb-true (countIn p) (countOf roll (contractorIn p)) (t .1 .1 .1 .1 .0) in
+      let c = a-contractor (contractorIn p) (g .contractor) in
+      record {
+        key-length = k;
+        round-count = r;
+        twelve = eqb-true (length grant) 12 l;
+        asked = one-or-two right q;
+        contractor = contractorIn p;
+        count = countIn p;
+        plain = sym (written-again p (opened-twelve key rounds grant) (opened-bytes key hk rounds grant hg k) (g .marked)) ∙ ap₂ (plainGrant (contractorIn p) (countIn p)) eb er;
+        least = c .least;
+        most = c .most;
+        on-roll = sym ec;
+        odd = omega (arith, s .odd, ec);
+        below = omega (arith, s .below, ec);
+      }
+
+  -- what passes where the plain bytes are known
+  module _ (contractor count : ℕ) (plain : openedGrant key rounds grant ≡ plainGrant contractor count block right)
+      (least : 1 ≤ contractor) (most : contractor ≤ 200) (small : count < 65536) (few : block < 4294967296) (asked : isRight right ≡ true) where
+    pub names-contractor : contractorIn (openedGrant key rounds grant) ≡ contractor
+    names-contractor = ap contractorIn plain ∙ reads-contractor contractor count block right (omega arith)
+
+    pub names-count : countIn (openedGrant key rounds grant) ≡ count
+    names-count = ap countIn plain ∙ reads-count contractor count block right small
+
+    pub names-block : blockIn (openedGrant key rounds grant) ≡ block
+    names-block = ap blockIn plain ∙ reads-block contractor count block right few
+
+    pub names-right : rightIn (openedGrant key rounds grant) ≡ right
+    names-right = ap rightIn plain ∙ reads-right contractor count block right
+
+    pub names-grant : isGrant (openedGrant key rounds grant) ≡ true
+    names-grant =
+        is-grant (openedGrant key rounds grant)
+        record {
+          marked = ap isMarked plain ∙ reads-mark contractor count block right;
+          contractor = ap isContractor names-contractor ∙ is-contractor contractor record { least = least; most = most };
+          right = ap isRight names-right ∙ asked;
+        }
+
+pub accepted : (key : List ℕ) (rounds : ℕ) (roll : Roll) (grant : List ℕ) (block right : ℕ) → block < 4294967296
+    → (o : Opening key rounds roll grant block right) → Accepted key rounds roll grant block right (o .contractor)
+unfolding checkContractor checkRight
+accepted key rounds roll grant block right few o =
+    let c = o .contractor in
+    let n = o .count in
+    let q = is-right right (o .asked) in
+    let small : n < 65536 = omega (arith, o .below) in
+    let nc = names-contractor key rounds roll grant block right c n (o .plain) (o .least) (o .most) small few q in
+    let nn = names-count key rounds roll grant block right c n (o .plain) (o .least) (o .most) small few q in
+    let nb = names-block key rounds roll grant block right c n (o .plain) (o .least) (o .most) small few q in
+    let nr = names-right key rounds roll grant block right c n (o .plain) (o .least) (o .most) small few q in
+    let s : countOf roll (contractorIn (openedGrant key rounds grant)) ≡ n = ap (countOf roll) nc ∙ o .on-roll in
+    let e = none-given (checkTries key rounds roll grant block right) (
+      o .key-length,
+      (
+        o .round-count,
+        (
+          eq-eqb (length grant) 12 (o .twelve),
+          (
+            q,
+            (
+              names-grant key rounds roll grant block right c n (o .plain) (o .least) (o .most) small few q,
+              (eq-eqb _ block nb, (eq-eqb _ right nr, (ap inStanding s ∙ is-standing n record { odd = o .odd; below = o .below }, (eq-eqb _ _ (nn ∙ sym s), tt)))),
+            ),
+          ),
+        ),
+      ),
+    ) in
+    record {
+      number = e;
+      answers-contractor = sym (answer-done (checkTries key rounds roll grant block right) (contractorIn (openedGrant key rounds grant)) 0 e) ∙ nc;
+      answers-right = sym (answer-done (checkTries key rounds roll grant block right) (rightIn (openedGrant key rounds grant)) 0 e) ∙ nr;
+    }

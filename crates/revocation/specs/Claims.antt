@@ -1,0 +1,118 @@
+-- What is claimed of grants: demand 2's second half; document 01, "Roll and grant", "Reasons" and the order lines. A term of each type stands
+-- in proofs/Claims.antt.
+use mathlib.Core.Bool.{true}
+use mathlib.Core.Logic.{_⊎_}
+use mathlib.Core.Path.{_≡_}
+use mathlib.Core.List.{List}
+use Prim.Native.Nat.{ℕ, _%_, _≤_, _<_}
+use lib.ListN.{length}
+use Rattle.refusal.specs.Tries.{Try, first, NoneHolds}
+use Rattle.refusal.specs.Claims.{FirstOf}
+use Rattle.blocks.specs.Blocks.{AreBytes}
+use Rattle.sizes.specs.Sizes.{keyLength, roundsAllowed}
+use Rattle.roll.specs.declared.Roll.{Roll}
+use Rattle.roll.specs.Roll.{countOf, enterTries, withdrawTries}
+use Rattle.histories.specs.Histories.{Change, changeOf, changed, rollAfter, Withdrawn, Merge, IsRoll}
+use Rattle.grant.specs.declared.Verdict.{Verdict}
+use Rattle.grant.specs.Grants.{isRight, plainGrant, contractorIn, verdictNumber, verdictContractor, verdictRight}
+use Rattle.grant.specs.Calls.{issueTries, issueNumber, issuedGrant, openedGrant, checkTries, checkNumber, checkContractor, checkRight}
+
+-- ---- a grant opens exactly when
+-- none of the input reasons holds; the grant deciphers to the plain bytes of a grant to a contractor, 1 to 200, for that size block and
+-- that right; and the roll has that contractor in standing, with the count that is written in it
+pub record Opening (key : List ℕ) (rounds : ℕ) (roll : Roll) (grant : List ℕ) (block right : ℕ) : Type 0 where
+  pub key-length : keyLength (length key) ≡ true
+  pub round-count : roundsAllowed (length key) rounds ≡ true
+  pub twelve : length grant ≡ 12
+  pub asked : (right ≡ 1) ⊎ (right ≡ 2)
+  pub contractor : ℕ
+  pub count : ℕ
+  pub plain : openedGrant key rounds grant ≡ plainGrant contractor count block right
+  pub least : 1 ≤ contractor
+  pub most : contractor ≤ 200
+  pub on-roll : countOf roll contractor ≡ count
+  pub odd : count % 2 ≡ 1
+  pub below : count < 65535
+
+-- a check that is not refused, with the contractor and the right that it answers
+pub record Accepted (key : List ℕ) (rounds : ℕ) (roll : Roll) (grant : List ℕ) (block right contractor : ℕ) : Type 0 where
+  pub number : checkNumber key rounds roll grant block right ≡ 0
+  pub answers-contractor : checkContractor key rounds roll grant block right ≡ contractor
+  pub answers-right : checkRight key rounds roll grant block right ≡ right
+
+unfoldable pub OpensExactlyWhen : Type 0
+OpensExactlyWhen = (key : List ℕ) → AreBytes key → (rounds : ℕ) (roll : Roll) (grant : List ℕ) → AreBytes grant
+    → (block : ℕ) → block < 4294967296 → (right : ℕ)
+    → (checkNumber key rounds roll grant block right ≡ 0 → Opening key rounds roll grant block right)
+    × ((o : Opening key rounds roll grant block right) → Accepted key rounds roll grant block right (o .contractor))
+
+-- ---- each refusal has its reason, and the first in order is given
+pub record Ordered (ts : List Try) : Type 0 where
+  pub none-given : NoneHolds ts → first ts ≡ 0
+  pub none-holds : first ts ≡ 0 → NoneHolds ts
+  pub given-first : 0 < first ts → FirstOf ts
+
+pub record OrderOfCalls (key : List ℕ) (rounds : ℕ) (roll : Roll) (contractor : ℕ) (grant : List ℕ) (block right : ℕ) (out : List ℕ) : Type 0 where
+  pub enter : Ordered (enterTries roll contractor)
+  pub withdraw : Ordered (withdrawTries roll contractor)
+  pub issue : Ordered (issueTries key rounds roll contractor right out)
+  pub check : Ordered (checkTries key rounds roll grant block right)
+
+unfoldable pub EachRefusalFirst : Type 0
+EachRefusalFirst = (key : List ℕ) (rounds : ℕ) (roll : Roll) (contractor : ℕ) (grant : List ℕ) (block right : ℕ) (out : List ℕ)
+    → OrderOfCalls key rounds roll contractor grant block right out
+
+-- ---- issue, then check
+-- an issue that is not refused: a key, a roll and a size block as the code has them
+pub record Issued (key : List ℕ) (rounds : ℕ) (roll : Roll) (contractor block right : ℕ) (out : List ℕ) : Type 0 where
+  pub key-bytes : AreBytes key
+  pub is-roll : IsRoll roll
+  pub block-small : block < 4294967296
+  pub number : issueNumber key rounds roll contractor right out ≡ 0
+
+-- on the same roll the grant opens for its block and right, with its contractor and right; for another block it is refused with 9, and
+-- for the other right with 10
+pub record Checks (key : List ℕ) (rounds : ℕ) (roll : Roll) (contractor block right : ℕ) : Type 0 where
+  pub opens : Accepted key rounds roll (issuedGrant key rounds roll contractor block right) block right contractor
+  pub other-block : (b : ℕ) → (b ≡ block → ⊥) → checkNumber key rounds roll (issuedGrant key rounds roll contractor block right) b right ≡ 9
+  pub other-right : (r : ℕ) → isRight r ≡ true → (r ≡ right → ⊥) → checkNumber key rounds roll (issuedGrant key rounds roll contractor block right) block r ≡ 10
+
+unfoldable pub IssuedOpens : Type 0
+IssuedOpens = (key : List ℕ) (rounds : ℕ) (roll : Roll) (contractor block right : ℕ) (out : List ℕ)
+    → Issued key rounds roll contractor block right out → Checks key rounds roll contractor block right
+
+-- ---- revocation, over all histories
+-- a grant opens for no size block and no right
+abbrev pub OpensNothing : List ℕ → ℕ → Roll → List ℕ → Type 0
+OpensNothing key rounds roll grant = (block right : ℕ) → checkNumber key rounds roll grant block right ≡ 0 → ⊥
+
+-- whatever is entered and withdrawn on the roll that a grant was issued from: once its contractor's withdrawal was accepted, it opens
+-- nothing, under the key and round count that it was issued with
+unfoldable pub RevokedNeverOpens : Type 0
+RevokedNeverOpens = (key : List ℕ) (rounds : ℕ) (roll : Roll) (contractor block right : ℕ) (out : List ℕ)
+    → Issued key rounds roll contractor block right out
+    → (hs : List Change) → Withdrawn contractor hs roll
+    → OpensNothing key rounds (rollAfter hs roll) (issuedGrant key rounds roll contractor block right)
+
+-- and so for two rooms that share the roll, in whatever order their calls arrive
+unfoldable pub RevokedInTwoRooms : Type 0
+RevokedInTwoRooms = (key : List ℕ) (rounds : ℕ) (roll : Roll) (contractor block right : ℕ) (out : List ℕ)
+    → Issued key rounds roll contractor block right out
+    → (xs ys hs : List Change) → Merge xs ys hs → Withdrawn contractor hs roll
+    → OpensNothing key rounds (rollAfter hs roll) (issuedGrant key rounds roll contractor block right)
+
+-- ---- others
+-- entering or withdrawing a contractor changes no check of a grant to another
+pub record SameCheck (key : List ℕ) (rounds : ℕ) (roll other : Roll) (grant : List ℕ) (block right : ℕ) : Type 0 where
+  pub number : checkNumber key rounds other grant block right ≡ checkNumber key rounds roll grant block right
+  pub answers-contractor : checkContractor key rounds other grant block right ≡ checkContractor key rounds roll grant block right
+  pub answers-right : checkRight key rounds other grant block right ≡ checkRight key rounds roll grant block right
+
+unfoldable pub OthersUndisturbed : Type 0
+OthersUndisturbed = (key : List ℕ) (rounds : ℕ) (roll : Roll) (grant : List ℕ) (block right : ℕ) (h : Change)
+    → (contractorIn (openedGrant key rounds grant) ≡ changeOf h → ⊥) → SameCheck key rounds roll (changed h roll) grant block right
+
+-- ---- verdicts
+-- number, contractor and right tell a verdict: so the check's contract fixes it
+unfoldable pub NumbersTellVerdicts : Type 0
+NumbersTellVerdicts = (v w : Verdict) → verdictNumber v ≡ verdictNumber w → verdictContractor v ≡ verdictContractor w → verdictRight v ≡ verdictRight w → v ≡ w
