@@ -1,6 +1,9 @@
 // The C interface: the calls over numbers and byte slices. A slice is a pointer and a length. Each answers 0, or the number of the reason
-// for which it refuses.
+// for which it refuses; the check answers with contractor and right where it does not refuse.
 
+mod check;
+
+pub use check::gordzila_check;
 ghost use mathlib.Core.Path.{_≡_};
 ghost use Rattle.engine.specs.Engine.{engineNumber, engineOutput};
 ghost use Rattle.cipher.specs.Cipher.{cipherNumber, cipherOutput};

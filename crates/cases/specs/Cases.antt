@@ -1,5 +1,5 @@
 -- The worked cases of document 01, "Thirteen proved cases", as one list, in its order, and the claim over the list. What is given is
--- computed from the definitions that the contracts cite; what is expected is document 01's. Case 13 joins with the grant.
+-- computed from the definitions that the contracts cite; what is expected is document 01's.
 use mathlib.Core.Path.{_≡_}
 use mathlib.Core.List.{List, [], _∷_, _++_}
 use Prim.Native.Nat.{ℕ}
@@ -10,6 +10,8 @@ use Rattle.layers.specs.State.{State}
 use Rattle.layers.specs.Layers.{permuted, diffused}
 use Rattle.schedule.specs.Columns.{columnRule}
 use Rattle.schedule.specs.Stages.{stage}
+use Rattle.grant.specs.declared.Right.the-variants.{Overwriting}
+use Rattle.grant.specs.Grants.{rightNumber, plainGrant}
 
 pub record Case : Type 0 where
   pub given : List ℕ
@@ -47,6 +49,7 @@ cases =
     ∷ (bytes (permuted counting)
     is (0x00 ∷ 0x04 ∷ 0x08 ∷ 0x03 ∷ 0x01 ∷ 0x0B ∷ 0x06 ∷ 0x0A ∷ 0x02 ∷ 0x09 ∷ 0x07 ∷ 0x05 ∷ []))
     ∷ (stage 2 (replicate 12 0x00) 1 is (0xA9 ∷ 0x13 ∷ 0x13 ∷ 0x07 ∷ 0x53 ∷ 0x53 ∷ 0xCC ∷ 0xE3 ∷ 0xE3 ∷ 0x70 ∷ 0x04 ∷ 0x04 ∷ []))
+    ∷ (plainGrant 7 1 300 (rightNumber Overwriting) is (0x00 ∷ 0x07 ∷ 0x00 ∷ 0x01 ∷ 0x00 ∷ 0x00 ∷ 0x01 ∷ 0x2C ∷ 0x02 ∷ 0x47 ∷ 0x52 ∷ 0x44 ∷ []))
     ∷ []
 
 -- what is given is what is expected, in every case of a list

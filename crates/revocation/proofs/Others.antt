@@ -2,15 +2,13 @@
 use mathlib.Core.Path.{_≡_, refl, sym, ap, _∙_}
 use mathlib.Core.Bool.{Bool, true, false, cond}
 use mathlib.Core.List.{List, [], _∷_}
-use Prim.Native.Nat.{ℕ, _<_}
+use Prim.Native.Nat.{ℕ}
 use native.Mathlib.Omega.{arith}
 use lib.Dec.{eqb}
 use lib.ListN.{length}
-use Rattle.refusal.specs.declared.Reason.{Reason}
-use Rattle.refusal.specs.declared.Reason.the-variants.{KeyLength, RoundCount, InputLength, OutputTooShort, StageOrList, Contractor, Right, NotAGrant, OtherBlock, OtherRight, NotInStanding, InStanding, CountSpent, OtherCount, BrokenHolder}
-use Rattle.refusal.specs.Reasons.{reasonNumber}
 use Rattle.refusal.specs.Claims.{NumbersTellReasons}
 use Rattle.refusal.proofs.Claims.{numbers-tell-reasons}
+use Rattle.refusal.proofs.Reasons.{reason-positive}
 use Rattle.refusal.specs.Tries.{_unless_, first, answered}
 use Rattle.refusal.proofs.Tries.{first-holds}
 use Rattle.sizes.specs.Sizes.{keyLength, roundsAllowed}
@@ -59,23 +57,6 @@ right-tells Reading Reading e = refl
 right-tells Overwriting Overwriting e = refl
 right-tells Reading Overwriting e = let z : ⊥ = omega (arith, e) in absurd z
 right-tells Overwriting Reading e = let z : ⊥ = omega (arith, e) in absurd z
-
-reason-positive : (r : Reason) → 0 < reasonNumber r
-reason-positive KeyLength = omega arith
-reason-positive RoundCount = omega arith
-reason-positive InputLength = omega arith
-reason-positive OutputTooShort = omega arith
-reason-positive StageOrList = omega arith
-reason-positive Contractor = omega arith
-reason-positive Right = omega arith
-reason-positive NotAGrant = omega arith
-reason-positive OtherBlock = omega arith
-reason-positive OtherRight = omega arith
-reason-positive NotInStanding = omega arith
-reason-positive InStanding = omega arith
-reason-positive CountSpent = omega arith
-reason-positive OtherCount = omega arith
-reason-positive BrokenHolder = omega arith
 
 pub verdicts-told : (v w : Verdict) → verdictNumber v ≡ verdictNumber w → verdictContractor v ≡ verdictContractor w → verdictRight v ≡ verdictRight w → v ≡ w
 unfolding NumbersTellReasons

@@ -1,1 +1,2 @@
 pub mod Contractors
+pub mod Pairs

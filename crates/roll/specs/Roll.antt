@@ -2,7 +2,7 @@
 -- 16-bit count for each contractor 1 to 200 (the epoch of the contractor's standing).
 use mathlib.Core.Bool.{Bool, not, _&&_}
 use mathlib.Core.List.{List, [], _∷_}
-use Prim.Native.Nat.{ℕ, _+_, _-_, _%_}
+use Prim.Native.Nat.{ℕ, _+_, _-_, _*_, _%_}
 use lib.Dec.{eqb, ltb, leb}
 use lib.ListN.{getD, set, replicate}
 use Rattle.refusal.specs.Tries.{Try, _unless_, first, answered}
@@ -51,3 +51,12 @@ withdrawNumber roll c = first (withdrawTries roll c)
 
 unfoldable pub withdrawnRoll : Roll → ℕ → Roll
 withdrawnRoll roll c = answered (withdrawNumber roll c) (counted roll c) roll
+
+-- ---- a roll in bytes: the counts of contractors 1 to 200, big end first
+unfoldable pub countsOf : List ℕ → List ℕ
+countsOf [] = []
+countsOf (a ∷ []) = []
+countsOf (a ∷ b ∷ bs) = (256 * a + b) ∷ countsOf bs
+
+unfoldable pub rollOf : List ℕ → Roll
+rollOf bytes = record { counts = countsOf bytes }

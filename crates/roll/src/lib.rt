@@ -1,6 +1,7 @@
 // The roll: a count for each contractor, by value. Entering and withdrawing each add 1 to a contractor's count.
 
 mod counts;
+mod stored;
 
 ghost use mathlib.Core.Path.{_≡_};
 ghost use Rattle.refusal.specs.Reasons.{outcomeNumber};
@@ -11,6 +12,7 @@ pub use counts::is_contractor;
 pub use counts::is_in_standing;
 use refusal::Outcome;
 use refusal::Reason;
+pub use stored::roll_from;
 
 // The count of contractor c stands at c - 1.
 pub struct Roll {

@@ -1,0 +1,54 @@
+-- A roll read from bytes, two at a time.
+use mathlib.Core.Path.{_≡_, refl, sym, ap, ap₂, _∙_}
+use mathlib.Core.List.{List, [], _∷_, _++_, append-assoc, append-nil}
+use Prim.Native.Nat.{ℕ, zero, suc, _+_, _-_, _*_, _<_}
+use native.Mathlib.Omega.{arith}
+use lib.ListN.{length, getD, take, set, replicate}
+use lib.Seq.{take-suc, length-take-le, set-at, take-all}
+use Rattle.roll.specs.Roll.{countsOf}
+
+length-counts : (bs : List ℕ) (n : ℕ) → length bs ≡ 2 * n → length (countsOf bs) ≡ n
+unfolding countsOf
+length-counts [] zero e = refl
+length-counts [] (suc n) e = let z : ⊥ = omega (arith, e) in absurd z
+length-counts (a ∷ []) zero e = let z : ⊥ = omega (arith, e) in absurd z
+length-counts (a ∷ []) (suc n) e = let z : ⊥ = omega (arith, e) in absurd z
+length-counts (a ∷ b ∷ bs) zero e = let z : ⊥ = omega (arith, e) in absurd z
+length-counts (a ∷ b ∷ bs) (suc n) e = ap suc (length-counts bs n (omega (arith, e)))
+
+counts-more : (bs : List ℕ) (n x y : ℕ) → length bs ≡ 2 * n → countsOf (bs ++ (x ∷ y ∷ [])) ≡ countsOf bs ++ ((256 * x + y) ∷ [])
+unfolding countsOf
+counts-more [] n x y e = refl
+counts-more (a ∷ []) zero x y e = let z : ⊥ = omega (arith, e) in absurd z
+counts-more (a ∷ []) (suc n) x y e = let z : ⊥ = omega (arith, e) in absurd z
+counts-more (a ∷ b ∷ bs) zero x y e = let z : ⊥ = omega (arith, e) in absurd z
+counts-more (a ∷ b ∷ bs) (suc n) x y e = ap {B = List ℕ} (λ l. (256 * a + b) ∷ l) (counts-more bs n x y (omega (arith, e)))
+
+-- the first i counts, and zeros
+unfoldable pub counts-to : List ℕ → ℕ → List ℕ
+counts-to bytes i = countsOf (take (2 * i) bytes) ++ replicate (200 - i) 0
+
+module _ (bytes : List ℕ) (all : length bytes ≡ 400) where
+  pub counts-next : (i : ℕ) → i < 200 → (out : List ℕ) (v : ℕ) → out ≡ counts-to bytes i → v ≡ 256 * getD bytes (2 * i) 0 + getD bytes (2 * i + 1) 0
+      → set out i v ≡ counts-to bytes (i + 1)
+  unfolding counts-to
+  counts-next i h out v eo ev =
+      let t = take (2 * i) bytes in
+      let x = getD bytes (2 * i) 0 in
+      let y = getD bytes (2 * i + 1) 0 in
+      let lt : length t ≡ 2 * i = length-take-le (2 * i) bytes (omega arith) in
+      let n : 200 - i ≡ suc (200 - (i + 1)) = omega arith in
+      let m : 2 * (i + 1) ≡ suc (suc (2 * i)) = omega arith in
+      let k : suc (2 * i) ≡ 2 * i + 1 = omega arith in
+      let more : take (2 * (i + 1)) bytes ≡ t ++ (x ∷ y ∷ []) =
+      ap (λ (p : ℕ). take p bytes) m ∙ take-suc bytes (suc (2 * i)) 0 (omega arith)
+      ∙ ap₂ (λ (l : List ℕ) (b : ℕ). l ++ (b ∷ [])) (take-suc bytes (2 * i) 0 (omega arith)) (ap (λ (p : ℕ). getD bytes p 0) k)
+      ∙ append-assoc t (x ∷ []) (y ∷ []) in
+      ap₂ (λ (l : List ℕ) (w : ℕ). set l i w) (eo ∙ ap (λ (p : ℕ). countsOf t ++ replicate p 0) n) ev
+      ∙ set-at (countsOf t) 0 (replicate (200 - (i + 1)) 0) (256 * x + y) i (length-counts t i lt)
+      ∙ sym (append-assoc (countsOf t) ((256 * x + y) ∷ []) (replicate (200 - (i + 1)) 0))
+      ∙ ap (λ (l : List ℕ). l ++ replicate (200 - (i + 1)) 0) (sym (ap countsOf more ∙ counts-more t i x y lt))
+
+  pub counts-all : counts-to bytes 200 ≡ countsOf bytes
+  unfolding counts-to
+  counts-all = append-nil (countsOf (take 400 bytes)) ∙ ap countsOf (take-all 400 bytes (omega arith))

@@ -1,0 +1,27 @@
+// A roll as hosts keep and lend it: 400 bytes, two for each contractor, big end first.
+
+ghost use mathlib.Core.Path.{_≡_};
+ghost use Prim.Native.Nat.{_+_, _*_};
+ghost use lib.ListN.{length};
+ghost use Rattle.roll.specs.Roll.{rollOf};
+use crate::Roll;
+
+// A count from its two bytes.
+fn count_from(high: u8, low: u8) -> u16
+    ensures { λ r. ⌜ r ≡ 256 * high + low ⌝ }
+{
+    256 * (high as u16) + low as u16
+}
+
+pub fn roll_from(bytes: &[u8]) -> Roll
+    requires { ⌜ length (now bytes) ≡ 400 ⌝ }
+    ensures { λ r. ⌜ r ≡ rollOf (now (bytes .entry)) ⌝ }
+{
+    let mut counts = [0u16; 200];
+    let mut i: usize = 0;
+    while i < 200 {
+        counts[i] = count_from(bytes[2 * i], bytes[2 * i + 1]);
+        i += 1;
+    }
+    Roll { counts }
+}
