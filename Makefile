@@ -1,9 +1,10 @@
 # make run    prove the libraries and run the main job
 # make test   every test; its last line is the prover's own 'N passed, 0 failed'
 # make vectors    write the stored outputs of the test programs anew, from the independent program
+# make hosts  the static library and the C programs over it, built and run
 # make bench  times, side by side with plain C and the independent program; no test
 
-.PHONY: run test vectors reference bench
+.PHONY: run test vectors reference hosts bench
 
 run:
 	rt check block_vectors
@@ -15,6 +16,7 @@ test:
 	tools/vectors check
 	tools/check-docs
 	rt fmt --check
+	tools/hosts
 	rt ci
 
 reference:
@@ -22,6 +24,9 @@ reference:
 
 vectors:
 	tools/vectors write
+
+hosts:
+	tools/hosts
 
 # The proved library beside plain C and the independent program, in one run.
 bench:

@@ -1,6 +1,7 @@
 //! Prints vectors of the reference implementation as plain text on standard
 //! output. What each subcommand prints, and the order in which it draws its
-//! inputs, stands at the top of `vectors.rs` and `routes.rs` and in README.md.
+//! inputs, stands at the top of `vectors.rs`, `routes.rs` and `grants.rs` and in
+//! README.md.
 
 #![forbid(unsafe_code)]
 
@@ -9,9 +10,9 @@ use std::io::{self, Write};
 use std::process::ExitCode;
 
 use curupira_reference::error::Error;
-use curupira_reference::{routes, vectors};
+use curupira_reference::{grants, routes, vectors};
 
-const USAGE: &str = "usage: reference sbox|layers|rounds|blocks|stages|routes";
+const USAGE: &str = "usage: reference sbox|layers|rounds|blocks|stages|routes|grants";
 
 /// Exit status for bad usage.
 const BAD_USAGE: u8 = 2;
@@ -41,6 +42,7 @@ fn subcommand(arguments: &[OsString]) -> Option<fn() -> Result<String, Error>> {
             "blocks" => Some(vectors::blocks_text),
             "stages" => Some(vectors::stages_text),
             "routes" => Some(routes::routes_text),
+            "grants" => Some(grants::grants_text),
             _ => None,
         },
         _ => None,

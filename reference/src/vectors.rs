@@ -1,5 +1,5 @@
 //! The vectors that the program prints, as plain text; those of `routes` are in
-//! `routes.rs`.
+//! `routes.rs`, and those of `grants` in `grants.rs`.
 //!
 //! Every subcommand has a generator of its own that starts from seed 1 and
 //! draws bytes for inputs only, in the order in which they are first printed. A

@@ -195,3 +195,41 @@ fn routes_draws_its_inputs_as_documented() {
     }
     assert!(rest.next().is_none());
 }
+
+/// The names of the lines of a life after the first, in their order.
+const LIFE: [&str; 15] = [
+    "issue", "enter", "issue", "check", "check", "check", "enter", "withdraw", "check", "withdraw",
+    "enter", "check", "issue", "check", "check",
+];
+
+/// The number that hexadecimal digits stand for.
+fn value(hex: &str) -> u64 {
+    u64::from_str_radix(hex, 16).expect("hex digits")
+}
+
+#[test]
+fn grants_draws_its_inputs_as_documented() {
+    let mut draw = Draw::new();
+    let printed = lines("grants");
+    let mut rest = printed.iter();
+    for (key_length, least, greatest) in SIZES {
+        for rounds in least..=greatest {
+            for _ in 0..4 {
+                let mut next = || rest.next().expect("there are more lines");
+                let key = draw.hex(key_length);
+                let contractor = 1 + value(&draw.hex(1)) % 200;
+                let block = value(&draw.hex(4));
+                let right = 1 + value(&draw.hex(1)) % 2;
+                let numbers = format!("{} {} {} {}", rounds, contractor, block, right);
+                assert_eq!(next().join(" "), format!("life {} {}", key, numbers));
+                for name in LIFE {
+                    assert_eq!(next()[0], name);
+                }
+                for position in 0..12 {
+                    assert_eq!(next()[..2], ["damaged", &position.to_string()]);
+                }
+            }
+        }
+    }
+    assert!(rest.next().is_none());
+}

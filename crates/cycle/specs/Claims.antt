@@ -7,7 +7,7 @@ use Rattle.schedule.specs.Columns.{IsStage}
 use Rattle.schedule.specs.Stages.{stage}
 use Rattle.cycle.specs.Cycle.{following, preceding, stageAfter, stageBefore}
 
--- on every stage of 2t columns, whether a key gives it at that number or not, a step back undoes a step forward, and the other way round
+-- on every stage of 2t columns and at every number, a step back undoes a step forward, and the other way round
 unfoldable pub StepBackUndoes : Type 0
 StepBackUndoes = (t : ℕ) → Sized t → (s : ℕ) → s < turn t → (k : List ℕ) → IsStage (2 * t) k
     → (stageBefore t (following t s) (stageAfter t s k) ≡ k) × (stageAfter t (preceding t s) (stageBefore t s k) ≡ k)

@@ -73,11 +73,11 @@ fn judge(p: &[u8; 12], roll: Roll, block: u32, right: u32) -> Verdict
         return Verdict::Refused(Reason::OtherRight);
     }
     let contractor = contractor_in(p);
-    let count = roll::count_of(roll, contractor);
-    if !roll::is_in_standing(count) {
+    let current = roll::count_of(roll, contractor);
+    if !roll::is_in_standing(current) {
         return Verdict::Refused(Reason::NotInStanding);
     }
-    if count_in(p) != count as u32 {
+    if count_in(p) != current as u32 {
         return Verdict::Refused(Reason::OtherCount);
     }
     Verdict::Opens(Grant {

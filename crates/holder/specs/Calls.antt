@@ -1,5 +1,5 @@
 -- What the holder's calls answer: document 01, "Key stages", and the order lines "holder or stage from key 1, 5; holder 24, 5". A refusal is
--- the number beside the unchanged holder; where none was handed in, the blank one stands in its place.
+-- the number beside the unchanged holder; where none was handed in, the blank one stands in its place. The subkey comes with no holder.
 use mathlib.Core.List.{List, [], _∷_}
 use Prim.Native.Nat.{ℕ}
 use lib.Dec.{ltb}
@@ -53,7 +53,7 @@ walkNumber h d = first (walkTries h d)
 unfoldable pub walkHolder : Holder → ℕ → Holder
 walkHolder h d = answered (walkNumber h d) (walked h d) h
 
--- the steps and the direction that it reports; a refused walk reports 0 forward
+-- the steps and the direction that it reports; a refused walk reports 0 steps forward
 unfoldable pub walkSteps : Holder → ℕ → ℕ
 walkSteps h d = answered (walkNumber h d) (ringDistance (sizeHeld h) (h .number) d) 0
 

@@ -33,7 +33,7 @@ fn way(w: Way) {
 }
 
 // A key's length and a stage's number, as a holder has them.
-fn place(h: Holder) {
+fn held(h: Holder) {
     number(h.length);
     number(h.number);
     printing::newline();
@@ -47,7 +47,7 @@ fn make_line(length: usize) {
     printing::word(b"make");
     number(length);
     outcome(o);
-    place(h);
+    held(h);
 }
 
 fn straight_line(length: usize, n: usize) {
@@ -59,7 +59,7 @@ fn straight_line(length: usize, n: usize) {
     number(length);
     number(n);
     outcome(o);
-    place(h);
+    held(h);
 }
 
 // A walk from stage s to stage d of a key.
@@ -78,7 +78,7 @@ fn walk_line(length: usize, s: usize, d: usize) {
     outcome(o);
     number(r.steps);
     way(w);
-    place(h);
+    held(h);
 }
 
 fn same_bytes(a: &[u8; 24], b: &[u8; 24]) -> bool {
@@ -139,12 +139,18 @@ fn walk_case(h: Holder, d: usize) {
     way(w);
 }
 
+// A refused request for the subkey answers twelve zeros.
 fn subkey_case(h: Holder) {
     let g = holder::subkey(h);
     let o = g.outcome;
     let k = g.subkey;
     printing::word(b" subkey");
-    kept(o, printing::all_marks(&k, 0, 0));
+    outcome(o);
+    if printing::all_marks(&k, 0, 0) {
+        printing::word(b" zeros");
+    } else {
+        printing::word(b" given");
+    }
 }
 
 // Every call on a broken holder. 5 would hold of the second walk too; 24 comes before it.

@@ -22,7 +22,7 @@ pub enum Reason {
     BrokenHolder,
 }
 
-// What a call over lent bytes answers.
+// What a call answers: that it did its work, or why it refused.
 pub enum Outcome {
     Done,
     Refused(Reason),

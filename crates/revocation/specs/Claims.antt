@@ -98,8 +98,8 @@ RevokedNeverOpens = (key : List ℕ) (rounds : ℕ) (roll : Roll) (contractor bl
 unfoldable pub RevokedInTwoRooms : Type 0
 RevokedInTwoRooms = (key : List ℕ) (rounds : ℕ) (roll : Roll) (contractor block right : ℕ) (out : List ℕ)
     → Issued key rounds roll contractor block right out
-    → (xs ys hs : List Change) → Merge xs ys hs → Withdrawn contractor hs roll
-    → OpensNothing key rounds (rollAfter hs roll) (issuedGrant key rounds roll contractor block right)
+    → (xs ys zs : List Change) → Merge xs ys zs → Withdrawn contractor zs roll
+    → OpensNothing key rounds (rollAfter zs roll) (issuedGrant key rounds roll contractor block right)
 
 -- ---- others
 -- entering or withdrawing a contractor changes no check of a grant to another

@@ -22,7 +22,7 @@ unfoldable pub callsOf : List ℕ → List Call
 callsOf [] = []
 callsOf (b ∷ bs) = callOf b ∷ callsOf bs
 
--- an answer, with the holder that the call returned or left: what the answer has not is 0, forward and zeros
+-- an answer, with the holder that the call returned or left: what the answer lacks is 0, forward and zeros
 unfoldable pub loggedOf : Answer → Holder → Logged
 loggedOf (held n h) left = record { number = n; steps = 0; way = Forward; subkey = noSubkey; holder = left }
 loggedOf (reported n h steps way) left = record { number = n; steps = steps; way = way; subkey = noSubkey; holder = left }
@@ -32,8 +32,8 @@ abbrev pub wayNumber : Way → ℕ
 wayNumber Forward = 0
 wayNumber Back = 1
 
--- a row of the log, 41 bytes: refusal number, steps, direction, the holder's length and number, the subkey, the holder's bytes. All
--- numbers are below 256
+-- a row of the log, 41 bytes: refusal number, steps, direction, the holder's length and number, the subkey, the holder's bytes. In
+-- a run all numbers are below 256
 unfoldable pub rowOf : Logged → List ℕ
 rowOf r = (r .number % 256 ∷ r .steps % 256 ∷ wayNumber (r .way) ∷ r .holder .length % 256 ∷ r .holder .number % 256 ∷ []) ++ (r .subkey ++ r .holder .bytes)
 

@@ -1,5 +1,5 @@
-// Runs lists of 200 calls on key holders, drawn from the generator, and prints every answer, in the format of the independent program's
-// `routes` (reference/README.md).
+// Runs lists of 200 calls on key holders, drawn from the generator, and prints what each call answered and the holder after the list, in
+// the format of the independent program's `routes` (reference/README.md).
 
 mod run;
 

@@ -1,11 +1,15 @@
 -- A term of each type of specs/Claims.antt.
-use mathlib.Core.Path.{refl}
+use mathlib.Core.Path.{refl, sym}
 use Rattle.refusal.specs.Tries.{first}
-use Rattle.holder.specs.Holder.{whole, blank}
-use Rattle.routes.specs.Claims.{AnyRoute, FullTurn, WalkIsShortest, BlankIsRefused}
+use mathlib.Core.List.{[]}
+use Rattle.refusal.proofs.Tries.{first-holds}
+use Rattle.refusal.proofs.Answers.{answer-refused}
+use Rattle.holder.specs.Holder.{whole, blank, stepped, walked}
+use Rattle.holder.specs.Calls.{holderTries, holderNumber, stepHolder, walkTries, walkNumber, walkHolder}
+use Rattle.routes.specs.Claims.{AnyRoute, FullTurn, WalkIsShortest, RefusalKeepsHolder, BrokenIsRefused, BlankIsRefused}
 use Rattle.routes.proofs.Ring.{shortest}
 use Rattle.routes.proofs.Routes.{any-route-of}
-use Rattle.routes.proofs.Held.{turned}
+use Rattle.routes.proofs.Held.{comes-home}
 
 pub any-route : AnyRoute
 unfolding AnyRoute
@@ -13,12 +17,23 @@ any-route key bytes right cs = any-route-of key bytes right cs
 
 pub full-turn : FullTurn
 unfolding FullTurn
-full-turn = turned
+full-turn = comes-home
 
 pub walk-is-shortest : WalkIsShortest
 unfolding WalkIsShortest
 walk-is-shortest t s d hs hd = shortest t s d hs hd
 
+pub refusal-keeps-holder : RefusalKeepsHolder
+unfolding RefusalKeepsHolder stepHolder walkHolder
+refusal-keeps-holder h = (
+  λ way p. sym (answer-refused (holderTries h) (holderNumber h) (stepped way h) h p refl),
+  λ d p. sym (answer-refused (walkTries h d) (walkNumber h d) (walked h d) h p refl),
+)
+
+pub broken-is-refused : BrokenIsRefused
+unfolding BrokenIsRefused
+broken-is-refused h e = record { steps = first-holds _ [] e; walks = λ d. first-holds _ _ e }
+
 pub blank-is-refused : BlankIsRefused
 unfolding BlankIsRefused first whole blank
-blank-is-refused = (refl, λ d. refl)
+blank-is-refused = record { steps = refl; walks = λ d. refl }

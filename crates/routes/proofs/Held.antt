@@ -25,9 +25,9 @@ use Rattle.holder.specs.declared.Way.{Way}
 use Rattle.holder.specs.Holder.{sizeHeld, allZero, whole, holderAt, stepped}
 use Rattle.holder.specs.Calls.{holderTries, holderNumber, stepHolder}
 use Rattle.holder.proofs.Whole.{a-whole, turn-held, step-whole}
-use Rattle.routes.specs.Claims.{Turned}
+use Rattle.routes.specs.Claims.{ComesHome}
 use Rattle.routes.proofs.Ring.{full-turn}
-use Rattle.routes.proofs.At.{steps-at}
+use Rattle.routes.proofs.At.{whole-at, steps-at}
 
 -- ---- a whole holder's bytes are its stage's, and zeros
 all-zero : (bs : List ℕ) → allZero bs ≡ true → bs ≡ replicate (length bs) 0
@@ -103,18 +103,18 @@ call-steps way zero h w = refl
 call-steps way (suc m) h w = ap (stepHolder way) (call-steps way m h w) ∙ call-step way (repeated m (stepped way) h) (steps-whole way m h w)
 
 -- ---- a full turn
-turned-key : (way : Way) (h : Holder) → whole h ≡ true → Key h → repeated (turn (sizeHeld h)) (stepped way) h ≡ h
-turned-key way h w k =
-    let n = h .number in
-    let t = sizeOf (length (k .key)) in
-    let b : n < turn t = subst (λ (x : ℕ). n < turn x) (sym (k .size)) (a-whole h w .below) in
-    ap₂ (λ (x : ℕ) (y : Holder). repeated (turn x) (stepped way) y) (sym (k .size)) (k .at)
-    ∙ steps-at (k .key) (k .bytes) (k .right) way (turn t) n b
-    ∙ ap (holderAt (k .key)) (full-turn t way n b)
-    ∙ sym (k .at)
+module _ (key : List ℕ) (bytes : AreBytes key) (right : keyLength (length key) ≡ true) (n : ℕ) (b : n < turn (sizeOf (length key))) (way : Way) where
+  pub home-at : ComesHome (holderAt key n) way
+  home-at =
+      let h = holderAt key n in
+      let w = whole-at key bytes right n b in
+      record {
+        taken = λ m. ap holderNumber (call-steps way m h w) ∙ not-refused (repeated m (stepped way) h) (steps-whole way m h w);
+        home = call-steps way (turn (sizeOf (length key))) h w ∙ steps-at key bytes right way (turn (sizeOf (length key))) n b ∙ ap (holderAt key) (full-turn (sizeOf (length key)) way n b);
+      }
 
-pub turned : (h : Holder) → AreBytes (h .bytes) → length (h .bytes) ≡ 24 → whole h ≡ true → (way : Way) → Turned h way
-turned h bytes all w way = record {
-  taken = λ m. ap holderNumber (call-steps way m h w) ∙ not-refused (repeated m (stepped way) h) (steps-whole way m h w);
-  home = call-steps way (turn (sizeHeld h)) h w ∙ turned-key way h w (key-of h bytes all w);
-}
+pub comes-home : (h : Holder) → AreBytes (h .bytes) → length (h .bytes) ≡ 24 → whole h ≡ true → (way : Way) → ComesHome h way
+comes-home h bytes all w way =
+    let k = key-of h bytes all w in
+    let b = subst (λ (x : ℕ). h .number < turn x) (sym (k .size)) (a-whole h w .below) in
+    subst (λ (x : Holder). ComesHome x way) (sym (k .at)) (home-at (k .key) (k .bytes) (k .right) (h .number) b way)

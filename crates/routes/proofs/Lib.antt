@@ -1,5 +1,5 @@
 pub mod Ring
 pub mod At
-pub mod Routes
 pub mod Held
+pub mod Routes
 pub mod Claims

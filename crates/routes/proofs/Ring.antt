@@ -145,6 +145,27 @@ at-least t s d m h e =
     ∙ ap (λ (x : ℕ). x % turn t) z ∙ add-mod-right m (turn t) in
     omega (arith, f, mod-le m (turn t))
 
+abbrev code : Way → ℕ
+code Forward = 0
+code Back = 1
+
+longer : (t s d m : ℕ) → s < turn t → wayTo t s d ≡ Back → repeated m (following t) s ≡ d → ringDistance t s d < m
+longer t s d m hs ew e = elim (below-or-not (3 * t) (stepsForward t s d)) [
+  | inl l ↦ omega (arith, ring-back t s d l .0, at-least t s d m hs e)
+  | inr l ↦ omega (arith, ap code (sym (ring-forward t s d l .1) ∙ ew))
+]
+
+led : (t s d : ℕ) (way : Way) → s < turn t → d < turn t → wayTo t s d ≡ way → repeated (ringDistance t s d) (numberTo t way) s ≡ d
+led t s d way hs hd e = ap (λ (w : Way). repeated (ringDistance t s d) (numberTo t w) s) (sym e) ∙ arrives t s d hs hd
+
+led-forward : (t s d : ℕ) → s < turn t → d < turn t → wayTo t s d ≡ Forward → repeated (ringDistance t s d) (following t) s ≡ d
+unfolding numberTo
+led-forward t s d hs hd e = led t s d Forward hs hd e
+
+led-back : (t s d : ℕ) → s < turn t → d < turn t → wayTo t s d ≡ Back → repeated (ringDistance t s d) (preceding t) s ≡ d
+unfolding numberTo
+led-back t s d hs hd e = led t s d Back hs hd e
+
 pub shortest : (t s d : ℕ) → s < turn t → d < turn t → Shortest t s d
 shortest t s d hs hd = record {
   most = elim (below-or-not (3 * t) (stepsForward t s d)) [
@@ -153,4 +174,7 @@ shortest t s d hs hd = record {
   ];
   forward = λ m e. omega (arith, forward-bound t s d, at-least t s d m hs e);
   back = λ m e. omega (arith, back-bound t s d hs hd, at-least t d s m hd (ap (repeated m (following t)) (sym e) ∙ redone t m s hs));
+  arrives-forward = led-forward t s d hs hd;
+  arrives-back = led-back t s d hs hd;
+  forward-longer = λ ew m e. longer t s d m hs ew e;
 }

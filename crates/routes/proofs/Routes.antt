@@ -1,5 +1,5 @@
 -- Any list of calls: from place to place, each call answers what it has to and leaves the holder at the next place.
-use mathlib.Core.Path.{_≡_, refl, sym, ap, ap₂, _∙_}
+use mathlib.Core.Path.{_≡_, refl, sym, ap, ap₂, _∙_, subst}
 use mathlib.Core.Logic.{inl, inr}
 use mathlib.Core.Bool.{Bool, true, cond}
 use mathlib.Core.List.{List, [], _∷_}
@@ -12,13 +12,15 @@ use Rattle.blocks.specs.Blocks.{AreBytes}
 use Rattle.sizes.specs.Sizes.{keyLength, sizeOf, turn}
 use Rattle.schedule.proofs.Keys.{a-key}
 use Rattle.cycle.proofs.Addends.{following-below, preceding-below}
+use Rattle.holder.specs.declared.Holder.{Holder}
 use Rattle.holder.specs.declared.Way.the-variants.{Forward, Back}
 use Rattle.holder.specs.Holder.{holderAt, ringDistance, wayTo}
 use Rattle.holder.specs.Calls.{madeHolder}
 use Rattle.holder.proofs.Walks as walks
-use Rattle.routes.specs.Routes.{Call, forward, back, subkey, walk, Answer, held, reported, given, returned, answer, lastHolder, answers, placeAfter, lastPlace, expectedAnswer, expectedAnswers}
-use Rattle.routes.specs.Claims.{Route}
+use Rattle.routes.specs.Routes.{Call, forward, back, subkey, walk, Answer, held, reported, given, returned, leftBy, answer, lastHolder, answers, placeAfter, lastPlace, expectedAnswer, expectedAnswers}
+use Rattle.routes.specs.Claims.{ComesHome, Route}
 use Rattle.routes.proofs.Ring.{numberTo}
+use Rattle.routes.proofs.Held.{home-at}
 use Rattle.routes.proofs.At.{not-refused, step-call, subkey-call, walk-taken, walk-refused, walk-call, walk-steps, walk-way, straight-taken, straight-call, make-taken, make-call}
 
 -- the place after a call is below the turn
@@ -37,7 +39,7 @@ last-below t (c ∷ cs) n h = last-below t cs (placeAfter t c n) (place-below t 
 module _ (key : List ℕ) (bytes : AreBytes key) (right : keyLength (length key) ≡ true) where
   -- the holder that a call returns or leaves
   pub returned-at : (c : Call) (n : ℕ) → n < turn (sizeOf (length key)) → returned c (holderAt key n) ≡ holderAt key (placeAfter (sizeOf (length key)) c n)
-  unfolding returned placeAfter numberTo
+  unfolding returned leftBy answer placeAfter numberTo
   returned-at forward n h = step-call key bytes right n h Forward
   returned-at back n h = step-call key bytes right n h Back
   returned-at subkey n h = refl
@@ -95,4 +97,5 @@ module _ (key : List ℕ) (bytes : AreBytes key) (right : keyLength (length key)
         answered = ap (answers cs) (make-call key bytes right) ∙ answers-at cs 0 z;
         given-straight = straight-taken key bytes right (lastPlace t cs 0) b;
         straight = straight-call key bytes right (lastPlace t cs 0) b ∙ sym e;
+        turns = λ way. subst (λ (h : Holder). ComesHome h way) (sym e) (home-at key bytes right (lastPlace t cs 0) b way);
       }

@@ -27,18 +27,20 @@ pub data Answer : Type 0 where
   given : ℕ → List ℕ → Answer
 
 -- ---- the run: by the meanings that the calls' contracts cite
--- the holder that a call returns or leaves
-unfoldable pub returned : Call → Holder → Holder
-returned forward h = stepHolder Forward h
-returned back h = stepHolder Back h
-returned subkey h = h
-returned (walk d) h = walkHolder h d
-
 unfoldable pub answer : Call → Holder → Answer
 answer forward h = held (holderNumber h) (stepHolder Forward h)
 answer back h = held (holderNumber h) (stepHolder Back h)
 answer subkey h = given (holderNumber h) (subkeyHeld h)
 answer (walk d) h = reported (walkNumber h d) (walkHolder h d) (walkSteps h d) (walkWay h d)
+
+-- the holder that an answer returns or leaves
+unfoldable pub leftBy : Answer → Holder → Holder
+leftBy (held n r) h = r
+leftBy (reported n r steps way) h = r
+leftBy (given n k) h = h
+
+unfoldable pub returned : Call → Holder → Holder
+returned c h = leftBy (answer c h) h
 
 -- the holder after a list of calls, each handed the holder that the one before it returned or left, and all that the calls answered
 unfoldable pub lastHolder : List Call → Holder → Holder

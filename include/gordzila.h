@@ -1,0 +1,95 @@
+/*
+ * Gordzila: proved access control for a pattern store.
+ *
+ * The calls of the library for hosts in C. What each does is proved, for all inputs, from its source; docs/CLAIMS.md in the
+ * repository says what is promised and what is not.
+ *
+ * Rules for every call:
+ *  - Bytes are lent as a pointer and a length. The pointer is never null, also where the length is 0, and points to at
+ *    least as many bytes as the length says. The library keeps no pointer after the call.
+ *  - What a call writes to (out) overlaps nothing else that is lent to it. What it only reads may overlap.
+ *  - A call takes any lengths and numbers. Where they are wrong, it refuses with a number and writes nothing. Where more than
+ *    one reason holds, it gives the first in the order that stands with the call.
+ *  - Where it does not refuse, it writes the bytes that are said below, from the start of out, and no byte after them.
+ *  - The calls have no state and may be made from any thread. Their time depends on the key and the data: they are not made to
+ *    resist an observer of time.
+ */
+#ifndef GORDZILA_H
+#define GORDZILA_H
+
+#include <stddef.h>
+#include <stdint.h>
+
+#ifdef __cplusplus
+extern "C" {
+#endif
+
+/* Reasons for which a call refuses. */
+enum {
+    /* found in the input */
+    GORDZILA_KEY_LENGTH = 1,       /* key not 12, 18 or 24 bytes */
+    GORDZILA_ROUND_COUNT = 2,      /* round count not 10..11, 14..17 or 18..23, by the key's length */
+    GORDZILA_INPUT_LENGTH = 3,     /* block or grant not 12 bytes; roll not 400 bytes */
+    GORDZILA_OUTPUT_TOO_SHORT = 4, /* out shorter than what is to be written */
+    GORDZILA_LIST_LENGTH = 5,      /* subkey list under 132 bytes, over 288, or no multiple of 12 */
+    GORDZILA_CONTRACTOR = 6,       /* contractor outside 1 to 200 */
+    GORDZILA_RIGHT = 7,            /* right neither 1 nor 2 */
+    GORDZILA_NOT_A_GRANT = 8,      /* the deciphered bytes have a wrong mark, contractor or right */
+    GORDZILA_OTHER_BLOCK = 9,      /* grant for another size block */
+    GORDZILA_OTHER_RIGHT = 10,     /* grant for another right */
+    /* found in the state */
+    GORDZILA_NOT_IN_STANDING = 20, /* contractor not in standing */
+    GORDZILA_IN_STANDING = 21,     /* entering someone in standing */
+    GORDZILA_COUNT_SPENT = 22,     /* entering at count 65,534 or 65,535 */
+    GORDZILA_OTHER_COUNT = 23,     /* the grant's count differs from the roll's */
+    GORDZILA_BROKEN_HOLDER = 24    /* key holder with a wrong length, number or bytes past the key */
+};
+
+/* Rights. */
+enum { GORDZILA_READING = 1, GORDZILA_OVERWRITING = 2 };
+
+/* Lengths in bytes. */
+enum { GORDZILA_BLOCK_BYTES = 12, GORDZILA_GRANT_BYTES = 12, GORDZILA_ROLL_BYTES = 400 };
+
+/*
+ * Checks a grant for one size block and one right.
+ *
+ * roll: 400 bytes, the counts of contractors 1 to 200, two bytes each, big end first.
+ *
+ * Returns the number of the first of these reasons that holds: 1, 2, 3 (grant or roll), 7, 8, 9, 10, 20, 23. Otherwise the
+ * grant opens the size block, and the answer is 1,000 times the right plus the contractor: 1001 to 1200 for reading, 2001 to
+ * 2200 for overwriting.
+ */
+uint32_t gordzila_check(const uint8_t *key, size_t key_length, uint32_t rounds, const uint8_t *roll, size_t roll_length,
+                        const uint8_t *grant, size_t grant_length, uint32_t size_block, uint32_t right);
+
+/* Of an answer of gordzila_check: whether the grant opens, and if so the right and the contractor. */
+static inline int gordzila_opens(uint32_t answer) { return answer >= 1000; }
+static inline uint32_t gordzila_answered_right(uint32_t answer) { return answer / 1000; }
+static inline uint32_t gordzila_answered_contractor(uint32_t answer) { return answer % 1000; }
+
+/*
+ * The cipher. Each returns 0, or the number of the first reason that holds.
+ *
+ * Encipher or decipher one block: 12 bytes to out. Order: 1, 2, 3, 4.
+ */
+uint32_t gordzila_encipher(const uint8_t *key, size_t key_length, uint32_t rounds, const uint8_t *block, size_t block_length,
+                           uint8_t *out, size_t out_length);
+uint32_t gordzila_decipher(const uint8_t *key, size_t key_length, uint32_t rounds, const uint8_t *block, size_t block_length,
+                           uint8_t *out, size_t out_length);
+
+/* Prepare the subkey list for either direction: 12 * (rounds + 1) bytes to out. Order: 1, 2, 4. */
+uint32_t gordzila_prepare_enciphering(const uint8_t *key, size_t key_length, uint32_t rounds, uint8_t *out,
+                                      size_t out_length);
+uint32_t gordzila_prepare_deciphering(const uint8_t *key, size_t key_length, uint32_t rounds, uint8_t *out,
+                                      size_t out_length);
+
+/* Run the engine over a subkey list, whether a key gives it or not: 12 bytes to out. Order: 5, 3, 4. */
+uint32_t gordzila_run(const uint8_t *list, size_t list_length, const uint8_t *block, size_t block_length, uint8_t *out,
+                      size_t out_length);
+
+#ifdef __cplusplus
+}
+#endif
+
+#endif

@@ -1,0 +1,206 @@
+//! The log of calls on a roll and of checks of grants, as plain text. The roll and
+//! the grants are those of `roll.rs`.
+//!
+//! `grants` has one generator that starts from seed 1. It takes key lengths 12,
+//! 18, 24 in this order, for each its round counts upward (10..11, 14..17,
+//! 18..23), and for each of these does this 4 times: draw KEY (12, 18 or 24
+//! bytes), draw a byte x, draw BLOCK (4 bytes, big end first), draw a byte y, print
+//! a life. The contractor is 1 + x mod 200, and the right is 1 + y mod 2.
+//!
+//! A life is a fixed list of calls on a new roll, all for this contractor, with
+//! one line for each:
+//!
+//! - an issue before the contractor is entered; enter; an issue, which gives grant
+//!   A; grant A checked for its block and right, for the next block, and for the
+//!   other right;
+//! - enter again; withdraw; grant A checked; withdraw again;
+//! - enter; grant A checked; an issue, which gives grant B; grant B checked; grant
+//!   A checked;
+//! - grant B checked 12 times, each time with another byte damaged: the byte is
+//!   xored with 1.
+
+use crate::cipher::allowed_rounds;
+use crate::error::Error;
+use crate::generator::Generator;
+use crate::roll::{Accepted, Refusal, Roll};
+use crate::vectors::{add_line, hex, KEY_LENGTHS, SEED};
+
+/// How many lives there are for each key length and number of rounds.
+const LIVES_PER_ROUNDS: usize = 4;
+
+/// The number of a call that is not refused.
+const DONE: u8 = 0;
+
+/// What a damaged byte of a grant is xored with.
+const DAMAGE: u8 = 1;
+
+/// What is drawn for a life.
+struct Life {
+    key: Vec<u8>,
+    rounds: usize,
+    contractor: u16,
+    block: u32,
+    right: u8,
+}
+
+/// The lives for every key length and every number of rounds in Table 2 (section
+/// 3.9).
+pub fn grants_text() -> Result<String, Error> {
+    let mut generator = Generator::new(SEED);
+    let mut text = String::new();
+    for key_length in KEY_LENGTHS {
+        for rounds in allowed_rounds(key_length)? {
+            for _ in 0..LIVES_PER_ROUNDS {
+                let life = draw_life(&mut generator, key_length, rounds);
+                text.push_str(&life_text(&life));
+            }
+        }
+    }
+    Ok(text)
+}
+
+/// A life drawn from the generator: the key, one byte for the contractor, four for
+/// the size block, one for the right.
+fn draw_life(generator: &mut Generator, key_length: usize, rounds: usize) -> Life {
+    Life {
+        key: generator.bytes(key_length),
+        rounds,
+        contractor: 1 + u16::from(generator.byte() % 200),
+        block: draw_block(generator),
+        right: 1 + generator.byte() % 2,
+    }
+}
+
+/// The number of a size block, drawn from the generator big end first.
+fn draw_block(generator: &mut Generator) -> u32 {
+    (0..4).fold(0, |number, _| 256 * number + u32::from(generator.byte()))
+}
+
+/// The lines for one life.
+fn life_text(life: &Life) -> String {
+    let mut log = Log::new(life);
+    let other_right = 3 - life.right;
+    log.issue();
+    log.enter();
+    let grant_a = log.issue();
+    log.check(&grant_a, life.block, life.right);
+    log.check(&grant_a, life.block.wrapping_add(1), life.right);
+    log.check(&grant_a, life.block, other_right);
+    log.enter();
+    log.withdraw();
+    log.check(&grant_a, life.block, life.right);
+    log.withdraw();
+    log.enter();
+    log.check(&grant_a, life.block, life.right);
+    let grant_b = log.issue();
+    log.check(&grant_b, life.block, life.right);
+    log.check(&grant_a, life.block, life.right);
+    for position in 0..grant_b.len() {
+        log.check_damaged(&grant_b, position);
+    }
+    log.text
+}
+
+/// The roll of a life, and the lines for the calls that were made on it.
+struct Log<'a> {
+    life: &'a Life,
+    roll: Roll,
+    text: String,
+}
+
+impl<'a> Log<'a> {
+    /// A new roll, and the line for the life.
+    fn new(life: &'a Life) -> Self {
+        let mut text = String::new();
+        add_line(
+            &mut text,
+            &[
+                "life",
+                &hex(&life.key),
+                &life.rounds.to_string(),
+                &life.contractor.to_string(),
+                &life.block.to_string(),
+                &life.right.to_string(),
+            ],
+        );
+        Log {
+            life,
+            roll: Roll::new(),
+            text,
+        }
+    }
+
+    /// Enters the contractor, and adds the line for it.
+    fn enter(&mut self) {
+        let number = number_of(&self.roll.enter(self.life.contractor));
+        add_line(&mut self.text, &["enter", &number]);
+    }
+
+    /// Withdraws the contractor, and adds the line for it.
+    fn withdraw(&mut self) {
+        let number = number_of(&self.roll.withdraw(self.life.contractor));
+        add_line(&mut self.text, &["withdraw", &number]);
+    }
+
+    /// Issues a grant, and adds the line for it. It returns the grant, or no bytes
+    /// if the issue is refused.
+    fn issue(&mut self) -> Vec<u8> {
+        let life = self.life;
+        let issued = self.roll.issue(
+            &life.key,
+            life.rounds,
+            life.contractor,
+            life.block,
+            life.right,
+        );
+        let number = number_of(&issued);
+        match issued {
+            Ok(grant) => {
+                add_line(&mut self.text, &["issue", &number, &hex(&grant)]);
+                grant
+            }
+            Err(_) => {
+                add_line(&mut self.text, &["issue", &number]);
+                Vec::new()
+            }
+        }
+    }
+
+    /// Checks a grant, and adds the line for it.
+    fn check(&mut self, grant: &[u8], block: u32, right: u8) {
+        let fields = self.answer(grant, block, right);
+        add_line(&mut self.text, &["check", &fields]);
+    }
+
+    /// Checks a grant of the life with the byte at the position damaged, and adds
+    /// the line for it.
+    fn check_damaged(&mut self, grant: &[u8], position: usize) {
+        let mut damaged = grant.to_vec();
+        damaged[position] ^= DAMAGE;
+        let fields = self.answer(&damaged, self.life.block, self.life.right);
+        add_line(&mut self.text, &["damaged", &position.to_string(), &fields]);
+    }
+
+    /// The last three fields of the line for a check: its number, and the
+    /// contractor and the right if it is not refused, and otherwise 0 and 0.
+    fn answer(&self, grant: &[u8], block: u32, right: u8) -> String {
+        let checked = self
+            .roll
+            .check(&self.life.key, self.life.rounds, grant, block, right);
+        let number = number_of(&checked);
+        let accepted = checked.unwrap_or(Accepted {
+            contractor: 0,
+            right: 0,
+        });
+        format!("{} {} {}", number, accepted.contractor, accepted.right)
+    }
+}
+
+/// The field for the number of a call: 0, or the number of the reason for which it
+/// is refused.
+fn number_of<T>(result: &Result<T, Refusal>) -> String {
+    match result {
+        Ok(_) => DONE.to_string(),
+        Err(refusal) => refusal.number().to_string(),
+    }
+}

@@ -1,0 +1,292 @@
+//! The roll of contractors, and the grants that are issued from it. Neither is in
+//! the paper; what they do stands below and in README.md.
+//!
+//! The roll has a count of 16 bits for each of the contractors 1 to 200, all zero
+//! at first. A contractor is in standing if the count is odd and below 65,535.
+//! These are the calls, with the numbers of the reasons for which each is refused.
+//! Of several reasons that hold, the first in this order is given. A refused call
+//! changes nothing.
+//!
+//! - enter: adds 1 to a contractor's count; 6, 21, 22.
+//! - withdraw: adds 1 to a contractor's count; 6, 20.
+//! - issue: answers a grant with the contractor's count; 1, 2, 4, 6, 7, 20.
+//! - check: answers the contractor and the right of a grant, asked for one size
+//!   block and one right; 1, 2, 3, 7, 8, 9, 10, 20, 23.
+//!
+//! A grant is one block of 12 bytes: the plain bytes, enciphered under the key and
+//! the number of rounds. Number 4, for an output that is too short, does not occur:
+//! a grant is returned and not written to a place that the caller chose.
+
+use crate::cipher::{allowed_rounds, decrypt, encrypt};
+
+/// How many contractors there are; they have the numbers from 1 on.
+pub const CONTRACTORS: usize = 200;
+
+/// The right to read.
+pub const READING: u8 = 1;
+
+/// The right to overwrite.
+pub const OVERWRITING: u8 = 2;
+
+/// The number of bytes in a grant, plain or enciphered.
+const GRANT_LENGTH: usize = 12;
+
+/// The last bytes of every plain grant.
+const MARK: [u8; 3] = [0x47, 0x52, 0x44];
+
+/// The least count at which nobody is entered any more.
+const FULL: u16 = 65_534;
+
+/// Why a call is refused. The value of each is its number.
+#[derive(Clone, Copy, Debug, PartialEq, Eq)]
+pub enum Refusal {
+    /// The key does not have 12, 18 or 24 bytes.
+    KeyLength = 1,
+    /// The number of rounds is not one that Table 2 allows for the key.
+    Rounds = 2,
+    /// The grant does not have 12 bytes.
+    GrantLength = 3,
+    /// The contractor is outside 1 to 200.
+    NoSuchContractor = 6,
+    /// The right is neither reading nor overwriting.
+    NoSuchRight = 7,
+    /// The deciphered bytes have a wrong mark, contractor or right.
+    NoGrant = 8,
+    /// The grant is for another size block.
+    OtherBlock = 9,
+    /// The grant is for another right.
+    OtherRight = 10,
+    /// The contractor is not in standing.
+    NotInStanding = 20,
+    /// The contractor to be entered is in standing.
+    InStanding = 21,
+    /// The contractor to be entered has a count of 65,534 or 65,535.
+    Full = 22,
+    /// The count in the grant is not the one in the roll.
+    OtherCount = 23,
+}
+
+impl Refusal {
+    /// The number of the reason.
+    pub fn number(self) -> u8 {
+        self as u8
+    }
+}
+
+/// What the plain bytes of a grant say.
+#[derive(Clone, Copy, Debug, PartialEq, Eq)]
+pub struct Grant {
+    /// The contractor who has the grant.
+    pub contractor: u16,
+    /// The contractor's count when the grant was issued.
+    pub count: u16,
+    /// The number of the size block.
+    pub block: u32,
+    /// The right, reading or overwriting.
+    pub right: u8,
+}
+
+impl Grant {
+    /// The plain bytes, each number big end first: 2 for the contractor, 2 for the
+    /// count, 4 for the size block, 1 for the right, 3 for the mark.
+    pub fn plain_bytes(&self) -> Vec<u8> {
+        let mut bytes = Vec::with_capacity(GRANT_LENGTH);
+        bytes.extend(self.contractor.to_be_bytes());
+        bytes.extend(self.count.to_be_bytes());
+        bytes.extend(self.block.to_be_bytes());
+        bytes.push(self.right);
+        bytes.extend(MARK);
+        bytes
+    }
+
+    /// What deciphered bytes say. They are no grant if they are not 12, or if the
+    /// mark, the contractor or the right is wrong. Any count and any size block
+    /// will do.
+    pub fn from_plain_bytes(bytes: &[u8]) -> Result<Self, Refusal> {
+        let grant = match *bytes {
+            [a, b, c, d, e, f, g, h, right, x, y, z] if [x, y, z] == MARK => Grant {
+                contractor: u16::from_be_bytes([a, b]),
+                count: u16::from_be_bytes([c, d]),
+                block: u32::from_be_bytes([e, f, g, h]),
+                right,
+            },
+            _ => return Err(Refusal::NoGrant),
+        };
+        if place_of(grant.contractor).is_ok() && is_right(grant.right) {
+            Ok(grant)
+        } else {
+            Err(Refusal::NoGrant)
+        }
+    }
+}
+
+/// What an accepted check answers.
+#[derive(Clone, Copy, Debug, PartialEq, Eq)]
+pub struct Accepted {
+    /// The contractor who has the grant.
+    pub contractor: u16,
+    /// The right that was asked for.
+    pub right: u8,
+}
+
+/// The roll: one count for each contractor.
+#[derive(Clone, Debug, PartialEq, Eq)]
+pub struct Roll {
+    /// The counts, that of contractor 1 first.
+    counts: [u16; CONTRACTORS],
+}
+
+impl Roll {
+    /// A new roll, in which all counts are zero.
+    pub fn new() -> Self {
+        Roll::with_counts([0; CONTRACTORS])
+    }
+
+    /// A roll with the given counts, that of contractor 1 first.
+    pub fn with_counts(counts: [u16; CONTRACTORS]) -> Self {
+        Roll { counts }
+    }
+
+    /// The count of a contractor.
+    pub fn count(&self, contractor: u16) -> Result<u16, Refusal> {
+        Ok(self.counts[place_of(contractor)?])
+    }
+
+    /// Enters a contractor who is not in standing.
+    pub fn enter(&mut self, contractor: u16) -> Result<(), Refusal> {
+        let place = place_of(contractor)?;
+        if in_standing(self.counts[place]) {
+            return Err(Refusal::InStanding);
+        }
+        if self.counts[place] >= FULL {
+            return Err(Refusal::Full);
+        }
+        self.counts[place] += 1;
+        Ok(())
+    }
+
+    /// Withdraws a contractor who is in standing.
+    pub fn withdraw(&mut self, contractor: u16) -> Result<(), Refusal> {
+        let place = place_of(contractor)?;
+        check_standing(self.counts[place])?;
+        self.counts[place] += 1;
+        Ok(())
+    }
+
+    /// A grant of a right on a size block for a contractor in standing, with the
+    /// contractor's count now, enciphered.
+    pub fn issue(
+        &self,
+        key: &[u8],
+        rounds: usize,
+        contractor: u16,
+        block: u32,
+        right: u8,
+    ) -> Result<Vec<u8>, Refusal> {
+        check_key_and_rounds(key, rounds)?;
+        let count = self.count(contractor)?;
+        check_right(right)?;
+        check_standing(count)?;
+        let grant = Grant {
+            contractor,
+            count,
+            block,
+            right,
+        };
+        let enciphered = encrypt(key, rounds, &grant.plain_bytes());
+        Ok(enciphered.expect("the key, the rounds and the block are allowed"))
+    }
+
+    /// Whether an enciphered grant gives the right asked for on the size block
+    /// asked for.
+    pub fn check(
+        &self,
+        key: &[u8],
+        rounds: usize,
+        enciphered: &[u8],
+        block: u32,
+        right: u8,
+    ) -> Result<Accepted, Refusal> {
+        check_key_and_rounds(key, rounds)?;
+        if enciphered.len() != GRANT_LENGTH {
+            return Err(Refusal::GrantLength);
+        }
+        check_right(right)?;
+        let plain = decrypt(key, rounds, enciphered);
+        let plain = plain.expect("the key, the rounds and the block are allowed");
+        let grant = Grant::from_plain_bytes(&plain)?;
+        self.check_grant(&grant, block, right)
+    }
+
+    /// The part of a check that comes after deciphering.
+    fn check_grant(&self, grant: &Grant, block: u32, right: u8) -> Result<Accepted, Refusal> {
+        if grant.block != block {
+            return Err(Refusal::OtherBlock);
+        }
+        if grant.right != right {
+            return Err(Refusal::OtherRight);
+        }
+        let count = self.count(grant.contractor)?;
+        check_standing(count)?;
+        if grant.count != count {
+            return Err(Refusal::OtherCount);
+        }
+        Ok(Accepted {
+            contractor: grant.contractor,
+            right,
+        })
+    }
+}
+
+impl Default for Roll {
+    fn default() -> Self {
+        Roll::new()
+    }
+}
+
+/// Whether a contractor with this count is in standing.
+pub fn in_standing(count: u16) -> bool {
+    count % 2 == 1 && count < 65_535
+}
+
+/// Refuses a count with which a contractor is not in standing.
+fn check_standing(count: u16) -> Result<(), Refusal> {
+    if in_standing(count) {
+        Ok(())
+    } else {
+        Err(Refusal::NotInStanding)
+    }
+}
+
+/// Where the count of a contractor is, from 0 on.
+fn place_of(contractor: u16) -> Result<usize, Refusal> {
+    match usize::from(contractor) {
+        number @ 1..=CONTRACTORS => Ok(number - 1),
+        _ => Err(Refusal::NoSuchContractor),
+    }
+}
+
+/// Whether a byte is the number of a right.
+fn is_right(right: u8) -> bool {
+    right == READING || right == OVERWRITING
+}
+
+/// Refuses a byte that is not the number of a right.
+fn check_right(right: u8) -> Result<(), Refusal> {
+    if is_right(right) {
+        Ok(())
+    } else {
+        Err(Refusal::NoSuchRight)
+    }
+}
+
+/// Refuses a key of a wrong length, then a number of rounds that Table 2 (section
+/// 3.9) does not allow for the key.
+fn check_key_and_rounds(key: &[u8], rounds: usize) -> Result<(), Refusal> {
+    let allowed = allowed_rounds(key.len()).map_err(|_| Refusal::KeyLength)?;
+    if allowed.contains(&rounds) {
+        Ok(())
+    } else {
+        Err(Refusal::Rounds)
+    }
+}
