@@ -16,8 +16,7 @@ test:
 	tools/vectors check
 	tools/check-docs
 	rt fmt --check
-	tools/hosts
-	rt ci
+	tools/gate
 
 reference:
 	cd reference && cargo test --release --offline --quiet
