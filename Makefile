@@ -1,4 +1,4 @@
-# make run    prove the libraries and run the main job
+# make run    prove and build the library, and run the main job: a plotter's morning
 # make test   every test; its last line is the prover's own 'N passed, 0 failed'
 # make vectors    write the stored outputs of the test programs anew, from the independent program
 # make hosts  the static library and the C programs over it, built and run
@@ -7,8 +7,7 @@
 .PHONY: run test vectors reference hosts bench
 
 run:
-	rt check block_vectors
-	target/bin/block_vectors
+	tools/run
 
 test:
 	tools/setup

@@ -31,7 +31,7 @@ enum {
     GORDZILA_ROUND_COUNT = 2,      /* round count not 10..11, 14..17 or 18..23, by the key's length */
     GORDZILA_INPUT_LENGTH = 3,     /* block or grant not 12 bytes; roll not 400 bytes */
     GORDZILA_OUTPUT_TOO_SHORT = 4, /* out shorter than what is to be written */
-    GORDZILA_LIST_LENGTH = 5,      /* subkey list under 132 bytes, over 288, or no multiple of 12 */
+    GORDZILA_STAGE_OR_LIST = 5,    /* stage number 6t or more; subkey list under 132 bytes, over 288, or no multiple of 12 */
     GORDZILA_CONTRACTOR = 6,       /* contractor outside 1 to 200 */
     GORDZILA_RIGHT = 7,            /* right neither 1 nor 2 */
     GORDZILA_NOT_A_GRANT = 8,      /* the deciphered bytes have a wrong mark, contractor or right */
@@ -69,6 +69,21 @@ static inline uint32_t gordzila_answered_right(uint32_t answer) { return answer 
 static inline uint32_t gordzila_answered_contractor(uint32_t answer) { return answer % 1000; }
 
 /*
+ * The roll. Each returns 0, or the number of the first reason that holds.
+ *
+ * Enter or withdraw a contractor on the roll's 400 bytes: 1 is added to the contractor's count. A roll of zeros is one on which
+ * nobody was ever entered. Order: 3, 6, then 21, 22 (enter) or 20 (withdraw).
+ */
+uint32_t gordzila_enter(uint8_t *roll, size_t roll_length, uint32_t contractor);
+uint32_t gordzila_withdraw(uint8_t *roll, size_t roll_length, uint32_t contractor);
+
+/*
+ * Issues a grant to a contractor in the standing that the roll has for them: 12 bytes to out. Order: 1, 2, 3 (roll), 4, 6, 7, 20.
+ */
+uint32_t gordzila_issue(const uint8_t *key, size_t key_length, uint32_t rounds, const uint8_t *roll, size_t roll_length,
+                        uint32_t contractor, uint32_t size_block, uint32_t right, uint8_t *out, size_t out_length);
+
+/*
  * The cipher. Each returns 0, or the number of the first reason that holds.
  *
  * Encipher or decipher one block: 12 bytes to out. Order: 1, 2, 3, 4.
@@ -87,6 +102,13 @@ uint32_t gordzila_prepare_deciphering(const uint8_t *key, size_t key_length, uin
 /* Run the engine over a subkey list, whether a key gives it or not: 12 bytes to out. Order: 5, 3, 4. */
 uint32_t gordzila_run(const uint8_t *list, size_t list_length, const uint8_t *block, size_t block_length, uint8_t *out,
                       size_t out_length);
+
+/*
+ * A key's stage n, 0 to 6t - 1 for a key of 6t bytes: 24 bytes to out, with zeros past the key's length; and the subkey of that
+ * stage: 12 bytes to out. Order: 1, 5, 4.
+ */
+uint32_t gordzila_stage(const uint8_t *key, size_t key_length, uint32_t n, uint8_t *out, size_t out_length);
+uint32_t gordzila_subkey(const uint8_t *key, size_t key_length, uint32_t n, uint8_t *out, size_t out_length);
 
 #ifdef __cplusplus
 }

@@ -1,6 +1,7 @@
 /*
- * A plotter box's check, in small: before a size block is overwritten, the cached grant is checked against the roll as it is
- * now. Prints one line for each check of a morning on which the contractor is withdrawn.
+ * A plotter's morning, in small. The store enters a contractor and issues a grant; a plotter box caches it and checks it against the
+ * roll as it is now before each overwriting; the contractor is withdrawn, and the cached grant stops opening, also after a new standing.
+ * Prints a line for each step.
  */
 #include <stdio.h>
 #include <string.h>
@@ -11,14 +12,8 @@
 static const uint8_t key[12] = {0xc6, 0x7e, 0x81, 0x6b, 0x4b, 0xfb, 0xe2, 0xfb, 0x54, 0xf6, 0xbd, 0xdf};
 static const uint32_t rounds = 10;
 
-/* The count of a contractor, 1 to 200, in the roll's bytes. */
-static void set_count(uint8_t roll[GORDZILA_ROLL_BYTES], uint32_t contractor, uint32_t count) {
-    roll[2 * (contractor - 1)] = (uint8_t)(count / 256);
-    roll[2 * (contractor - 1) + 1] = (uint8_t)(count % 256);
-}
-
-static const char *reason(uint32_t answer) {
-    switch (answer) {
+static const char *reason(uint32_t number) {
+    switch (number) {
     case GORDZILA_NOT_A_GRANT:
         return "not a grant under this key";
     case GORDZILA_OTHER_BLOCK:
@@ -27,6 +22,8 @@ static const char *reason(uint32_t answer) {
         return "grant for another right";
     case GORDZILA_NOT_IN_STANDING:
         return "contractor not in standing";
+    case GORDZILA_IN_STANDING:
+        return "contractor already in standing";
     case GORDZILA_OTHER_COUNT:
         return "grant from an earlier standing";
     default:
@@ -34,38 +31,44 @@ static const char *reason(uint32_t answer) {
     }
 }
 
-/* Whether the size block may be overwritten. */
-static int may_overwrite(const uint8_t roll[GORDZILA_ROLL_BYTES], const uint8_t grant[GORDZILA_GRANT_BYTES],
-                         uint32_t size_block) {
+/* What a call on the roll or an issue answered. */
+static void done(const char *what, uint32_t number) {
+    if (number == 0) {
+        printf("%s: done\n", what);
+    } else {
+        printf("%s: refused with %u, %s\n", what, (unsigned)number, reason(number));
+    }
+}
+
+/* The plotter's question: may this size block be overwritten? */
+static void may_overwrite(const uint8_t roll[GORDZILA_ROLL_BYTES], const uint8_t grant[GORDZILA_GRANT_BYTES],
+                          uint32_t size_block) {
     uint32_t answer = gordzila_check(key, sizeof key, rounds, roll, GORDZILA_ROLL_BYTES, grant, GORDZILA_GRANT_BYTES,
                                      size_block, GORDZILA_OVERWRITING);
     if (gordzila_opens(answer)) {
-        printf("size block %u: opens for contractor %u\n", (unsigned)size_block,
+        printf("overwrite size block %u: opens for contractor %u\n", (unsigned)size_block,
                (unsigned)gordzila_answered_contractor(answer));
-        return 1;
+    } else {
+        printf("overwrite size block %u: refused with %u, %s\n", (unsigned)size_block, (unsigned)answer, reason(answer));
     }
-    printf("size block %u: refused with %u, %s\n", (unsigned)size_block, (unsigned)answer, reason(answer));
-    return 0;
-}
-
-/* The bytes of a cached grant: contractor 7, count 1, size block 300, overwriting, under the key above. */
-static void cached_grant(uint8_t grant[GORDZILA_GRANT_BYTES]) {
-    static const uint8_t plain[GORDZILA_BLOCK_BYTES] = {0, 7, 0, 1, 0, 0, 1, 44, 2, 0x47, 0x52, 0x44};
-    gordzila_encipher(key, sizeof key, rounds, plain, sizeof plain, grant, GORDZILA_GRANT_BYTES);
 }
 
 int main(void) {
     uint8_t roll[GORDZILA_ROLL_BYTES];
     uint8_t grant[GORDZILA_GRANT_BYTES];
     memset(roll, 0, sizeof roll);
-    cached_grant(grant);
+    memset(grant, 0, sizeof grant);
 
-    set_count(roll, 7, 1); /* entered */
+    done("issue to contractor 7",
+         gordzila_issue(key, sizeof key, rounds, roll, sizeof roll, 7, 300, GORDZILA_OVERWRITING, grant, sizeof grant));
+    done("enter contractor 7", gordzila_enter(roll, sizeof roll, 7));
+    done("issue to contractor 7",
+         gordzila_issue(key, sizeof key, rounds, roll, sizeof roll, 7, 300, GORDZILA_OVERWRITING, grant, sizeof grant));
     may_overwrite(roll, grant, 300);
     may_overwrite(roll, grant, 301);
-    set_count(roll, 7, 2); /* withdrawn */
+    done("withdraw contractor 7", gordzila_withdraw(roll, sizeof roll, 7));
     may_overwrite(roll, grant, 300);
-    set_count(roll, 7, 3); /* entered again: a new standing */
+    done("enter contractor 7", gordzila_enter(roll, sizeof roll, 7));
     may_overwrite(roll, grant, 300);
     return 0;
 }

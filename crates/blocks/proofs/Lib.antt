@@ -1,3 +1,4 @@
+pub mod Put
 pub mod Lists
 pub mod RoundTrip
 pub mod Claims

@@ -1,9 +1,9 @@
-// A state from twelve lent bytes, and a state written to lent bytes: byte i + 3j is row i, column j.
+// A state from twelve lent bytes, and a state or any bytes written to lent bytes: byte i + 3j is row i, column j.
 
 ghost use mathlib.Core.Path.{_≡_};
 ghost use mathlib.Core.List.{_++_};
-ghost use Prim.Native.Nat.{_≤_};
-ghost use lib.ListN.{length, drop};
+ghost use Prim.Native.Nat.{_+_, _≤_};
+ghost use lib.ListN.{length, take, drop};
 ghost use Rattle.blocks.specs.Blocks.{stateOf, bytesOf};
 
 pub fn state_of(b: &[u8]) -> [[u8; 3]; 4]
@@ -34,4 +34,16 @@ pub fn write_state(out: &mut [u8], a: [[u8; 3]; 4])
     out[9] = a[3][0];
     out[10] = a[3][1];
     out[11] = a[3][2];
+}
+
+// Bytes put at a place of a lent slice.
+pub fn put_bytes(out: &mut [u8], at: usize, bytes: &[u8])
+    requires { ⌜ at + length (now bytes) ≤ length (now out) ⌝ }
+    ensures { λ _. ⌜ now (out .exit) ≡ take at (now (out .entry)) ++ (now (bytes .entry) ++ drop (at + length (now (bytes .entry))) (now (out .entry))) ⌝ }
+{
+    let mut i: usize = 0;
+    while i < bytes.len() {
+        out[at + i] = bytes[i];
+        i += 1;
+    }
 }

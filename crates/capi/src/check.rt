@@ -32,7 +32,7 @@ fn verdict_code(verdict: Verdict) -> u32
 }
 
 // The number for a roll that is not 400 bytes.
-fn wrong_roll(key: &[u8], rounds: u32) -> u32
+pub fn wrong_roll(key: &[u8], rounds: u32) -> u32
     ensures { λ r. ⌜ r ≡ wrongRoll (now (key .entry)) rounds ⌝ }
 {
     if !sizes::is_key_length(key.len()) {

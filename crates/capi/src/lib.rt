@@ -2,8 +2,15 @@
 // for which it refuses; the check answers with contractor and right where it does not refuse.
 
 mod check;
+mod rolls;
+mod stages;
 
 pub use check::gordzila_check;
+pub use rolls::gordzila_enter;
+pub use rolls::gordzila_issue;
+pub use rolls::gordzila_withdraw;
+pub use stages::gordzila_stage;
+pub use stages::gordzila_subkey;
 ghost use mathlib.Core.Path.{_≡_};
 ghost use Rattle.engine.specs.Engine.{engineNumber, engineOutput};
 ghost use Rattle.cipher.specs.Cipher.{cipherNumber, cipherOutput};

@@ -1,2 +1,3 @@
 pub mod Contractors
 pub mod Pairs
+pub mod Claims

@@ -1,11 +1,12 @@
--- A roll read from bytes, two at a time.
+-- A roll read from bytes, two at a time, and written to them.
 use mathlib.Core.Path.{_≡_, refl, sym, ap, ap₂, _∙_}
 use mathlib.Core.List.{List, [], _∷_, _++_, append-assoc, append-nil}
-use Prim.Native.Nat.{ℕ, zero, suc, _+_, _-_, _*_, _<_}
+use Prim.Native.Nat.{ℕ, zero, suc, _+_, _-_, _*_, _/_, _%_, _<_}
 use native.Mathlib.Omega.{arith}
-use lib.ListN.{length, getD, take, set, replicate}
-use lib.Seq.{take-suc, length-take-le, set-at, take-all}
-use Rattle.roll.specs.Roll.{countsOf}
+use native.Mathlib.Numerals.{add-one}
+use lib.ListN.{length, getD, take, drop, set, replicate, length-append, drop-of-length-le}
+use lib.Seq.{take-suc, length-take-le, set-at, take-all, drop-cons}
+use Rattle.roll.specs.Roll.{countsOf, countsBytes}
 
 length-counts : (bs : List ℕ) (n : ℕ) → length bs ≡ 2 * n → length (countsOf bs) ≡ n
 unfolding countsOf
@@ -52,3 +53,44 @@ module _ (bytes : List ℕ) (all : length bytes ≡ 400) where
   pub counts-all : counts-to bytes 200 ≡ countsOf bytes
   unfolding counts-to
   counts-all = append-nil (countsOf (take 400 bytes)) ∙ ap countsOf (take-all 400 bytes (omega arith))
+
+-- ---- a roll written to bytes
+length-bytes : (ns : List ℕ) → length (countsBytes ns) ≡ 2 * length ns
+unfolding countsBytes
+length-bytes [] = refl
+length-bytes (n ∷ ns) = let h = length-bytes ns in omega arith
+
+bytes-more : (ns : List ℕ) (n : ℕ) → countsBytes (ns ++ (n ∷ [])) ≡ countsBytes ns ++ (n / 256 % 256 ∷ n % 256 ∷ [])
+unfolding countsBytes
+bytes-more [] n = refl
+bytes-more (x ∷ ns) n = ap {B = List ℕ} (λ l. x / 256 % 256 ∷ x % 256 ∷ l) (bytes-more ns n)
+
+-- the first i counts written, and what stood after them
+unfoldable pub bytes-to : List ℕ → ℕ → List ℕ → List ℕ
+bytes-to counts i out = countsBytes (take i counts) ++ drop (2 * i) out
+
+module _ (counts out₀ : List ℕ) (all : length counts ≡ 200) (room : length out₀ ≡ 400) where
+  pub bytes-next : (i : ℕ) → i < 200 → (out : List ℕ) → out ≡ bytes-to counts i out₀
+      → set (set out (2 * i) (getD counts i 0 / 256 % 256)) (2 * i + 1) (getD counts i 0 % 256) ≡ bytes-to counts (i + 1) out₀
+  unfolding bytes-to
+  bytes-next i h out e =
+      let p = countsBytes (take i counts) in
+      let n = getD counts i 0 in
+      let r = drop (suc (suc (2 * i))) out₀ in
+      let x = getD out₀ (2 * i) 0 in
+      let y = getD out₀ (suc (2 * i)) 0 in
+      let lp : length p ≡ 2 * i = length-bytes (take i counts) ∙ ap (λ (m : ℕ). 2 * m) (length-take-le i counts (omega arith)) in
+      let m : suc (suc (2 * i)) ≡ 2 * (i + 1) = omega arith in
+      let lq : length (p ++ (n / 256 % 256 ∷ [])) ≡ 2 * i + 1 = length-append p (n / 256 % 256 ∷ []) ∙ omega (arith, lp) in
+      ap (λ (l : List ℕ). set (set l (2 * i) (n / 256 % 256)) (2 * i + 1) (n % 256))
+      (e ∙ ap (λ (l : List ℕ). p ++ l) (drop-cons out₀ (2 * i) 0 (omega arith) ∙ ap (λ (l : List ℕ). x ∷ l) (drop-cons out₀ (suc (2 * i)) 0 (omega arith))))
+      ∙ ap (λ (l : List ℕ). set l (2 * i + 1) (n % 256)) (set-at p x (y ∷ r) (n / 256 % 256) (2 * i) lp ∙ sym (append-assoc p (n / 256 % 256 ∷ []) (y ∷ r)))
+      ∙ set-at (p ++ (n / 256 % 256 ∷ [])) y r (n % 256) (2 * i + 1) lq
+      ∙ append-assoc p (n / 256 % 256 ∷ []) (n % 256 ∷ r)
+      ∙ sym (append-assoc p (n / 256 % 256 ∷ n % 256 ∷ []) r)
+      ∙ ap₂ _++_ (sym (ap (λ (k : ℕ). countsBytes (take k counts)) (add-one i) ∙ ap countsBytes (take-suc counts i 0 (omega arith)) ∙ bytes-more (take i counts) n)) (ap (λ (k : ℕ). drop k out₀) m)
+
+  pub bytes-all : bytes-to counts 200 out₀ ≡ countsBytes counts
+  unfolding bytes-to
+  bytes-all =
+      ap₂ (λ (a b : List ℕ). countsBytes a ++ b) (take-all 200 counts (omega arith)) (drop-of-length-le out₀ {i = 400} (omega arith)) ∙ append-nil (countsBytes counts)

@@ -1,1 +1,2 @@
 pub mod Roll
+pub mod Claims

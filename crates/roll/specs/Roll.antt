@@ -2,7 +2,7 @@
 -- 16-bit count for each contractor 1 to 200 (the epoch of the contractor's standing).
 use mathlib.Core.Bool.{Bool, not, _&&_}
 use mathlib.Core.List.{List, [], _∷_}
-use Prim.Native.Nat.{ℕ, _+_, _-_, _*_, _%_}
+use Prim.Native.Nat.{ℕ, _+_, _-_, _*_, _/_, _%_}
 use lib.Dec.{eqb, ltb, leb}
 use lib.ListN.{getD, set, replicate}
 use Rattle.refusal.specs.Tries.{Try, _unless_, first, answered}
@@ -60,3 +60,11 @@ countsOf (a ∷ b ∷ bs) = (256 * a + b) ∷ countsOf bs
 
 unfoldable pub rollOf : List ℕ → Roll
 rollOf bytes = record { counts = countsOf bytes }
+
+-- and back: two bytes for each count
+unfoldable pub countsBytes : List ℕ → List ℕ
+countsBytes [] = []
+countsBytes (n ∷ ns) = n / 256 % 256 ∷ n % 256 ∷ countsBytes ns
+
+unfoldable pub rollBytes : Roll → List ℕ
+rollBytes roll = countsBytes (roll .counts)

@@ -13,6 +13,7 @@ pub use counts::is_in_standing;
 use refusal::Outcome;
 use refusal::Reason;
 pub use stored::roll_from;
+pub use stored::write_roll;
 
 // The count of contractor c stands at c - 1.
 pub struct Roll {

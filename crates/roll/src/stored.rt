@@ -3,7 +3,7 @@
 ghost use mathlib.Core.Path.{_≡_};
 ghost use Prim.Native.Nat.{_+_, _*_};
 ghost use lib.ListN.{length};
-ghost use Rattle.roll.specs.Roll.{rollOf};
+ghost use Rattle.roll.specs.Roll.{rollOf, rollBytes};
 use crate::Roll;
 
 // A count from its two bytes.
@@ -24,4 +24,19 @@ pub fn roll_from(bytes: &[u8]) -> Roll
         i += 1;
     }
     Roll { counts }
+}
+
+// Writes a roll's 400 bytes.
+pub fn write_roll(out: &mut [u8], roll: Roll)
+    requires { ⌜ (length (now out) ≡ 400) × (length (roll .counts) ≡ 200) ⌝ }
+    ensures { λ _. ⌜ now (out .exit) ≡ rollBytes roll ⌝ }
+{
+    let counts = roll.counts;
+    let mut i: usize = 0;
+    while i < 200 {
+        let n = counts[i];
+        out[2 * i] = (n / 256 % 256) as u8;
+        out[2 * i + 1] = (n % 256) as u8;
+        i += 1;
+    }
 }

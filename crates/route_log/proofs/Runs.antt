@@ -25,7 +25,8 @@ use Rattle.routes.specs.Routes.{Call, forward, back, subkey, walk, Answer, held
 use Rattle.routes.proofs.Routes.{last-below, returned-at, answer-at}
 use Rattle.route_log.specs.declared.Logged.{Logged}
 use Rattle.route_log.specs.Log.{callOf, callsOf, loggedOf, rowOf, rowsFrom, runTries, runNumber, runHolder, runLog}
-use Rattle.route_log.proofs.Put.{placed, placed-behind}
+use Rattle.blocks.proofs.Put.{placed}
+use Rattle.route_log.proofs.Put.{placed-behind}
 
 -- the row of a call at place s
 row-at : List ℕ → Call → ℕ → List ℕ

@@ -8,6 +8,7 @@ ghost use Rattle.refusal.specs.Reasons.{outcomeNumber};
 ghost use Rattle.routes.specs.Routes.{returned, answer};
 ghost use Rattle.route_log.specs.Log.{callOf, loggedOf, wayNumber, rowOf, runNumber, runHolder, runLog};
 use crate::Logged;
+use blocks::put_bytes;
 use holder::Held;
 use holder::Holder;
 use holder::Way;
@@ -70,18 +71,6 @@ fn call(code: u8, h: Holder) -> Logged
     }
 }
 
-// Bytes put at a place of a lent slice.
-fn put(out: &mut [u8], at: usize, bytes: &[u8])
-    requires { ⌜ at + length (now bytes) ≤ length (now out) ⌝ }
-    ensures { λ _. ⌜ now (out .exit) ≡ take at (now (out .entry)) ++ (now (bytes .entry) ++ drop (at + length (now (bytes .entry))) (now (out .entry))) ⌝ }
-{
-    let mut i: usize = 0;
-    while i < bytes.len() {
-        out[at + i] = bytes[i];
-        i += 1;
-    }
-}
-
 fn way_byte(way: Way) -> u8
     ensures { λ r. ⌜ r ≡ wayNumber way ⌝ }
 {
@@ -107,9 +96,9 @@ fn put_row(log: &mut [u8], at: usize, r: Logged)
         (h.length % 256) as u8,
         (h.number % 256) as u8,
     ];
-    put(log, at, &head);
-    put(log, at + 5, &subkey);
-    put(log, at + 17, &bytes);
+    put_bytes(log, at, &head);
+    put_bytes(log, at + 5, &subkey);
+    put_bytes(log, at + 17, &bytes);
 }
 
 // Runs every call of the list, in its order, by the holder's own calls.

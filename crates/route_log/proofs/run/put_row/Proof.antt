@@ -6,7 +6,8 @@ use native.Mathlib.Omega.{arith}
 use denote.Ref.{now}
 use lib.ListN.{length, take, drop}
 use Rattle.route_log.specs.Log.{rowOf}
-use Rattle.route_log.proofs.Put.{placed, three-parts}
+use Rattle.blocks.proofs.Put.{placed}
+use Rattle.route_log.proofs.Put.{three-parts}
 use borrow.Author.Needs.{needs}
 use Rattle.route_log.proofs.run.put_row.Statement.{statement}
 use Rattle.route_log.proofs.run.put_row.Tie as tie
@@ -26,29 +27,29 @@ cast-t15 c = search needs
 cast-t17 : tie.Need-cast-t17
 cast-t17 c = search needs
 
-slice-aggregate-put : tie.Need-slice-aggregate-put
-slice-aggregate-put c = search needs
+slice-aggregate-put-bytes : tie.Need-slice-aggregate-put-bytes
+slice-aggregate-put-bytes c = search needs
 
-put-requires : tie.Need-put-requires
-put-requires c κs = search needs
+put-bytes-requires : tie.Need-put-bytes-requires
+put-bytes-requires c κs = search needs
 
-add-put : tie.Need-add-put
-add-put c = search needs
+add-put-bytes : tie.Need-add-put-bytes
+add-put-bytes c = search needs
 
-slice-aggregate-put-2 : tie.Need-slice-aggregate-put-2
-slice-aggregate-put-2 c = search needs
+slice-aggregate-put-bytes-2 : tie.Need-slice-aggregate-put-bytes-2
+slice-aggregate-put-bytes-2 c = search needs
 
-put-requires-2 : tie.Need-put-requires-2
-put-requires-2 c κs = omega (arith, c .before .before .before .before .put .kept .0, c .before .before .before .before .before .before .before .before .before .before .before .before .before .before .before .before .pre .1 .0)
+put-bytes-requires-2 : tie.Need-put-bytes-requires-2
+put-bytes-requires-2 c κs = omega (arith, c .before .before .before .before .put-bytes .kept .0, c .before .before .before .before .before .before .before .before .before .before .before .before .before .before .before .before .pre .1 .0)
 
-add-put-2 : tie.Need-add-put-2
-add-put-2 c = search needs
+add-put-bytes-2 : tie.Need-add-put-bytes-2
+add-put-bytes-2 c = search needs
 
-slice-aggregate-put-3 : tie.Need-slice-aggregate-put-3
-slice-aggregate-put-3 c = sym (c .before .before .before .before .before .before .before .before .before .before .before .before .before .before .before .before .before .before .before .before .before .pre .1 .1)
+slice-aggregate-put-bytes-3 : tie.Need-slice-aggregate-put-bytes-3
+slice-aggregate-put-bytes-3 c = sym (c .before .before .before .before .before .before .before .before .before .before .before .before .before .before .before .before .before .before .before .before .before .pre .1 .1)
 
-put-requires-3 : tie.Need-put-requires-3
-put-requires-3 c κs = omega (arith, c .before .before .before .before .before .before .before .before .before .put .kept .0, c .before .before .before .before .put2 .kept .0, c .before .before .before .before .before .before .before .before .before .before .before .before .before .before .before .before .before .before .before .before .before .pre .1 .1)
+put-bytes-requires-3 : tie.Need-put-bytes-requires-3
+put-bytes-requires-3 c κs = omega (arith, c .before .before .before .before .before .before .before .before .before .put-bytes .kept .0, c .before .before .before .before .put-bytes2 .kept .0, c .before .before .before .before .before .before .before .before .before .before .before .before .before .before .before .before .before .before .before .before .before .pre .1 .1)
 
 same-length : tie.Need-same-length
 same-length c = search needs
@@ -60,7 +61,7 @@ returns c =
     let r = s .args .r in
     let head : ℕ → List ℕ = λ w. r .number % 256 ∷ r .steps % 256 ∷ w ∷ r .holder .length % 256 ∷ r .holder .number % 256 ∷ [] in
     three-parts (s .args .at) (head (c .before .before .before .before .before .before .before .before .before .before .before .before .before .before .before .before .before .way-byte .result)) (r .subkey) (r .holder .bytes) (now (s .args .log)) _ _ _ (omega arith) refl (s .pre .1 .0) (s .pre .1 .1)
-    (c .before .before .before .before .before .before .before .before .before .before .before .before .put .ensures) (c .before .before .before .before .before .before .before .put2 .ensures) (c .before .before .put3 .ensures)
+    (c .before .before .before .before .before .before .before .before .before .before .before .before .put-bytes .ensures) (c .before .before .before .before .before .before .before .put-bytes2 .ensures) (c .before .before .put-bytes3 .ensures)
     ∙ ap (λ (w : ℕ). take (s .args .at) (now (s .args .log)) ++ ((head w ++ (r .subkey ++ r .holder .bytes)) ++ drop (s .args .at + 41) (now (s .args .log)))) (c .before .before .before .before .before .before .before .before .before .before .before .before .before .before .before .before .before .way-byte .ensures)
 
 pub put-row-spec : {M : Type 1} → statement M
@@ -72,13 +73,13 @@ put-row-spec =
     way-byte-requires
     cast-t15
     cast-t17
-    slice-aggregate-put
-    put-requires
-    add-put
-    slice-aggregate-put-2
-    put-requires-2
-    add-put-2
-    slice-aggregate-put-3
-    put-requires-3
+    slice-aggregate-put-bytes
+    put-bytes-requires
+    add-put-bytes
+    slice-aggregate-put-bytes-2
+    put-bytes-requires-2
+    add-put-bytes-2
+    slice-aggregate-put-bytes-3
+    put-bytes-requires-3
     same-length
     returns)

@@ -1,14 +1,14 @@
--- `route_log::run::put` meets its contract.
+-- `blocks::put_bytes` meets its contract.
 use mathlib.Core.Path.{_≡_, refl, _∙_}
 use mathlib.Core.List.{_++_}
 use Prim.Native.Nat.{_+_, _-_, _≤_}
 use native.Mathlib.Omega.{arith}
 use denote.Ref.{now}
 use lib.ListN.{length, take, drop}
-use Rattle.route_log.proofs.Put.{placed-none, placed-next, placed-all}
+use Rattle.blocks.proofs.Put.{placed-none, placed-next, placed-all}
 use borrow.Author.Needs.{needs}
-use Rattle.route_log.proofs.run.put.Statement.{statement}
-use Rattle.route_log.proofs.run.put.Tie as tie
+use Rattle.blocks.proofs.put_bytes.Statement.{statement}
+use Rattle.blocks.proofs.put_bytes.Tie as tie
 
 abbrev Inv-loop : tie.InvT-loop
 Inv-loop out₀ at bytes i₀ out i = (length out ≡ length out₀) × ((i ≤ length bytes) × (out ≡ take at out₀ ++ (take i bytes ++ drop (at + i) out₀)))
@@ -50,8 +50,8 @@ returns c =
     let e : l .i ≡ length (now (a .bytes)) = omega arith in
     l .inv .1 .1 ∙ placed-all (a .at) (l .i) (now (a .bytes)) (now (a .out)) e
 
-pub put-spec : {M : Type 1} → statement M
-put-spec =
+pub put-bytes-spec : {M : Type 1} → statement M
+put-bytes-spec =
     tie.close
     (tie.spec
     Inv-loop

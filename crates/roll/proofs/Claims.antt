@@ -1,0 +1,39 @@
+-- A term of each type of specs/Claims.antt.
+use mathlib.Core.Path.{_≡_, refl, ap}
+use mathlib.Core.List.{List, [], _∷_}
+use Prim.Native.Nat.{ℕ, zero, suc, _+_, _*_, _/_, _%_, _<_}
+use native.Mathlib.Omega.{arith}
+use lib.ListN.{length, getD}
+use Rattle.roll.specs.Roll.{countsOf, countsBytes, rollOf, rollBytes}
+use Rattle.roll.specs.Claims.{BytesTellRoll, RollTellsBytes}
+
+high : (a b : ℕ) → a < 256 → b < 256 → (256 * a + b) / 256 % 256 ≡ a
+high a b ha hb = omega arith
+
+low : (a b : ℕ) → b < 256 → (256 * a + b) % 256 ≡ b
+low a b hb = omega arith
+
+both : (n : ℕ) → n < 65536 → 256 * (n / 256 % 256) + n % 256 ≡ n
+both n h = omega arith
+
+bytes-again : (bs : List ℕ) (n : ℕ) → length bs ≡ 2 * n → ((i : ℕ) → getD bs i 0 < 256) → countsBytes (countsOf bs) ≡ bs
+unfolding countsOf countsBytes
+bytes-again [] n e h = refl
+bytes-again (a ∷ []) zero e h = let z : ⊥ = omega (arith, e) in absurd z
+bytes-again (a ∷ []) (suc n) e h = let z : ⊥ = omega (arith, e) in absurd z
+bytes-again (a ∷ b ∷ bs) zero e h = let z : ⊥ = omega (arith, e) in absurd z
+bytes-again (a ∷ b ∷ bs) (suc n) e h = λ i.
+  high a b (h 0) (h 1) i ∷ low a b (h 1) i ∷ bytes-again bs n (omega (arith, e)) (λ j. h (suc (suc j))) i
+
+counts-again : (ns : List ℕ) → ((i : ℕ) → getD ns i 0 < 65536) → countsOf (countsBytes ns) ≡ ns
+unfolding countsOf countsBytes
+counts-again [] h = refl
+counts-again (n ∷ ns) h = λ i. both n (h 0) i ∷ counts-again ns (λ j. h (suc j)) i
+
+pub bytes-tell-roll : BytesTellRoll
+unfolding BytesTellRoll rollOf rollBytes
+bytes-tell-roll bytes h e = bytes-again bytes 200 e h
+
+pub roll-tells-bytes : RollTellsBytes
+unfolding RollTellsBytes rollOf rollBytes
+roll-tells-bytes roll h = λ i. record { counts = counts-again (roll .counts) h i }
