@@ -1,13 +1,23 @@
 # make run    prove and build the library, and run the main job: a plotter's morning
 # make test   every test; its last line is the prover's own 'N passed, 0 failed'
 # make vectors    write the stored outputs of the test programs anew, from the independent program
-# make hosts  the static library and the C programs over it, built and run
+# make library    prove and build the static library
+# make install    header, library and pkg-config file to PREFIX (/usr/local), after make library
+# make hosts  the static library and the programs over it, built and run
 # make bench  times, side by side with plain C and the independent program; no test
 
-.PHONY: run test vectors reference hosts bench
+.PHONY: run library install test vectors reference hosts bench
+
+PREFIX ?= /usr/local
 
 run:
 	tools/run
+
+library:
+	rt staticlib capi
+
+install:
+	tools/install $(PREFIX)
 
 test:
 	tools/setup
