@@ -1,48 +1,133 @@
-//! Compiles the plain C baseline, and links it and the library's archive.
+//! Compiles the C baselines, and links them, the library's archive and, if it is
+//! installed, libtomcrypt.
 
 use std::env;
 use std::fs;
 use std::path::{Path, PathBuf};
-use std::process::Command;
+use std::process::{Command, Stdio};
 
 /// Where `rt staticlib capi` leaves the archive, seen from this directory, unless
 /// GORDZILA_ARCHIVE names another.
 const ARCHIVE: &str = "../target/staticlib/libcapi.a";
 
-/// The compiler of the baseline, unless BENCH_CC names another.
+/// The compiler of the baselines, unless BENCH_CC names another.
 const CC: &str = "gcc";
 
 /// Its flags, unless BENCH_CFLAGS gives others. The instruction set is the one
 /// that the archive is made for.
 const CFLAGS: &str = "-O3 -march=x86-64";
 
+/// The other compiler, for one more row.
+const CLANG: &str = "clang";
+
+/// Keeps gcc from gathering the bytes of a state into vectors.
+const NO_VECTORS: &str = "-fno-tree-slp-vectorize";
+
 /// The flags that do not change the code.
-const STRICT: [&str; 4] = ["-std=c11", "-Wall", "-Wextra", "-Wpedantic"];
+const STRICT: [&str; 5] = ["-std=c11", "-Wall", "-Wextra", "-Wpedantic", "-Werror"];
+
+/// The C files, and what they include.
+const SOURCES: [&str; 7] = [
+    "baseline.h",
+    "build.rs",
+    "calls.h",
+    "others.c",
+    "others.h",
+    "plain.c",
+    "table.c",
+];
+
+/// Files that come and go with what may be missing, so that an installation is
+/// noticed.
+const OPTIONAL: [&str; 2] = ["/usr/bin/clang", "/usr/include/tomcrypt.h"];
 
 fn main() {
     let out = PathBuf::from(variable("OUT_DIR"));
-    link_plain(&out);
+    for file in SOURCES.into_iter().chain(OPTIONAL) {
+        println!("cargo:rerun-if-changed={file}");
+    }
+    link_baselines(&out);
+    link_clang(&out);
+    link_others(&out);
     link_library(&out);
     println!("cargo:rustc-link-search=native={}", out.display());
-    println!("cargo:rerun-if-changed=build.rs");
     hand_on("INDEPENDENT", &independent());
 }
 
-fn link_plain(out: &Path) {
+/// The baselines that are always there.
+fn link_baselines(out: &Path) {
     let compiler = setting("BENCH_CC", CC);
     let flags = setting("BENCH_CFLAGS", CFLAGS);
-    let object = out.join("plain.o");
-    run(Command::new(&compiler)
+    let scalar = format!("{flags} {NO_VECTORS}");
+    link_baseline(out, "plain_c", "plain.c", &compiler, &flags);
+    link_baseline(out, "plain_scalar", "plain.c", &compiler, &scalar);
+    link_baseline(out, "table_c", "table.c", &compiler, &flags);
+    link_baseline(out, "table_scalar", "table.c", &compiler, &scalar);
+}
+
+/// The baseline that clang compiles, if there is one. Without it, BENCH_PLAIN_CLANG
+/// says so.
+fn link_clang(out: &Path) {
+    println!("cargo:rustc-check-cfg=cfg(bench_clang)");
+    if has_clang() {
+        let flags = setting("BENCH_CFLAGS", CFLAGS);
+        link_baseline(out, "plain_clang", "plain.c", CLANG, &flags);
+        println!("cargo:rustc-cfg=bench_clang");
+    } else {
+        hand_on(
+            "PLAIN_CLANG",
+            "clang is not installed: this row is left out",
+        );
+    }
+}
+
+/// The ciphers of libtomcrypt, if its header and its library are there.
+fn link_others(out: &Path) {
+    println!("cargo:rustc-check-cfg=cfg(bench_tomcrypt)");
+    if has_tomcrypt(out) {
+        compile(out, "others", "others.c", CC, CFLAGS);
+        println!("cargo:rustc-link-lib=dylib=tomcrypt");
+        println!("cargo:rustc-cfg=bench_tomcrypt");
+    }
+}
+
+/// Compiles a file, as the baseline of this name.
+fn link_baseline(out: &Path, name: &str, source: &str, compiler: &str, flags: &str) {
+    let named = format!("{flags} -DBASELINE={name}");
+    compile(out, name, source, compiler, &named);
+    let shown = format!("{}, {flags}", version(compiler));
+    hand_on(&name.to_uppercase(), &shown);
+}
+
+/// Compiles a file to an archive of its own, and links it.
+fn compile(out: &Path, name: &str, source: &str, compiler: &str, flags: &str) {
+    let object = out.join(format!("{name}.o"));
+    run(Command::new(compiler)
         .args(STRICT)
         .args(flags.split_whitespace())
-        .args(["-c", "plain.c", "-o"])
+        .args(["-c", source, "-o"])
         .arg(&object));
-    let archive = out.join("libplain.a");
+    let archive = out.join(format!("lib{name}.a"));
     run(Command::new("ar").arg("crs").arg(archive).arg(object));
-    println!("cargo:rustc-link-lib=static=plain");
-    println!("cargo:rerun-if-changed=plain.c");
-    println!("cargo:rerun-if-changed=plain.h");
-    hand_on("PLAIN", &format!("{}, {flags}", version(&compiler)));
+    println!("cargo:rustc-link-lib=static={name}");
+}
+
+fn has_clang() -> bool {
+    quiet(Command::new(CLANG).arg("--version"))
+}
+
+/// Whether a program that includes tomcrypt.h can be linked to libtomcrypt.
+fn has_tomcrypt(out: &Path) -> bool {
+    let source = out.join("probe.c");
+    let text = "#include <tomcrypt.h>\nint main(void) { return aes_desc.test(); }\n";
+    fs::write(&source, text).expect("the probe can be written");
+    quiet(
+        Command::new(CC)
+            .arg(&source)
+            .arg("-o")
+            .arg(out.join("probe"))
+            .arg("-ltomcrypt"),
+    )
 }
 
 /// Links a copy of the archive, so that its name and place do not matter.
@@ -102,6 +187,12 @@ fn version(compiler: &str) -> String {
         .unwrap_or_else(|error| panic!("{compiler}: {error}"));
     let text = String::from_utf8_lossy(&output.stdout);
     text.lines().next().unwrap_or("unknown").to_string()
+}
+
+/// Runs a command that may fail, without its output, and says whether it did well.
+fn quiet(command: &mut Command) -> bool {
+    let status = command.stdout(Stdio::null()).stderr(Stdio::null()).status();
+    matches!(status, Ok(status) if status.success())
 }
 
 fn run(command: &mut Command) {

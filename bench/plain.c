@@ -1,25 +1,16 @@
-#include "plain.h"
+/*
+ * Curupira in plain C, by the same algorithm as the proved library: the S-box is
+ * computed from the two mini-boxes, and the diffusion byte by byte.
+ */
+#include "baseline.h"
 
-#include <stdbool.h>
 #include <string.h>
-
-enum {
-    ROWS = 3,
-    COLUMNS = 4,
-    BLOCK = ROWS * COLUMNS,
-    MOST_KEY_COLUMNS = 8,
-    LEAST_ROUNDS = 10,
-    MOST_ROUNDS = 23,
-    MOST_LIST = BLOCK * (MOST_ROUNDS + 1)
-};
 
 /* A state is four columns of three bytes. */
 typedef uint8_t state[COLUMNS][ROWS];
 
 /* A key stage is four, six or eight columns of three bytes. */
 typedef uint8_t stage[MOST_KEY_COLUMNS][ROWS];
-
-enum direction { ENCIPHERING, DECIPHERING };
 
 /* The S-box, computed from the two mini-boxes. */
 
@@ -190,121 +181,4 @@ static void fill_list(enum direction direction, const uint8_t *key,
     }
 }
 
-/* The checks, in the order in which the calls make them. */
-
-static uint32_t check_key(size_t key_len, uint32_t rounds)
-{
-    uint32_t least, most;
-
-    switch (key_len) {
-    case 12:
-        least = 10;
-        most = 11;
-        break;
-    case 18:
-        least = 14;
-        most = 17;
-        break;
-    case 24:
-        least = 18;
-        most = 23;
-        break;
-    default:
-        return PLAIN_KEY_LENGTH;
-    }
-    if (rounds < least || rounds > most)
-        return PLAIN_ROUND_COUNT;
-    return PLAIN_DONE;
-}
-
-static uint32_t check_block(size_t block_len, size_t out_len)
-{
-    if (block_len != BLOCK)
-        return PLAIN_INPUT_LENGTH;
-    if (out_len < BLOCK)
-        return PLAIN_OUTPUT_TOO_SHORT;
-    return PLAIN_DONE;
-}
-
-static bool is_list_length(size_t n)
-{
-    return n >= BLOCK * (LEAST_ROUNDS + 1) && n <= MOST_LIST && n % BLOCK == 0;
-}
-
-/* The calls. */
-
-static uint32_t run_block(enum direction direction, const uint8_t *key,
-                          size_t key_len, uint32_t rounds,
-                          const uint8_t *block, size_t block_len,
-                          uint8_t *out, size_t out_len)
-{
-    uint32_t refusal = check_key(key_len, rounds);
-    uint8_t list[MOST_LIST];
-
-    if (refusal == PLAIN_DONE)
-        refusal = check_block(block_len, out_len);
-    if (refusal != PLAIN_DONE)
-        return refusal;
-    fill_list(direction, key, key_len, rounds, list);
-    run_list(list, rounds, block, out);
-    return PLAIN_DONE;
-}
-
-static uint32_t prepare(enum direction direction, const uint8_t *key,
-                        size_t key_len, uint32_t rounds,
-                        uint8_t *out, size_t out_len)
-{
-    uint32_t refusal = check_key(key_len, rounds);
-
-    if (refusal != PLAIN_DONE)
-        return refusal;
-    if (out_len < BLOCK * ((size_t)rounds + 1))
-        return PLAIN_OUTPUT_TOO_SHORT;
-    fill_list(direction, key, key_len, rounds, out);
-    return PLAIN_DONE;
-}
-
-uint32_t plain_encipher(const uint8_t *key, size_t key_len, uint32_t rounds,
-                        const uint8_t *block, size_t block_len,
-                        uint8_t *out, size_t out_len)
-{
-    return run_block(ENCIPHERING, key, key_len, rounds, block, block_len, out,
-                     out_len);
-}
-
-uint32_t plain_decipher(const uint8_t *key, size_t key_len, uint32_t rounds,
-                        const uint8_t *block, size_t block_len,
-                        uint8_t *out, size_t out_len)
-{
-    return run_block(DECIPHERING, key, key_len, rounds, block, block_len, out,
-                     out_len);
-}
-
-uint32_t plain_prepare_enciphering(const uint8_t *key, size_t key_len,
-                                   uint32_t rounds,
-                                   uint8_t *out, size_t out_len)
-{
-    return prepare(ENCIPHERING, key, key_len, rounds, out, out_len);
-}
-
-uint32_t plain_prepare_deciphering(const uint8_t *key, size_t key_len,
-                                   uint32_t rounds,
-                                   uint8_t *out, size_t out_len)
-{
-    return prepare(DECIPHERING, key, key_len, rounds, out, out_len);
-}
-
-uint32_t plain_run(const uint8_t *list, size_t list_len,
-                   const uint8_t *block, size_t block_len,
-                   uint8_t *out, size_t out_len)
-{
-    uint32_t refusal;
-
-    if (!is_list_length(list_len))
-        return PLAIN_LIST_LENGTH;
-    refusal = check_block(block_len, out_len);
-    if (refusal != PLAIN_DONE)
-        return refusal;
-    run_list(list, (uint32_t)(list_len / BLOCK) - 1, block, out);
-    return PLAIN_DONE;
-}
+#include "calls.h"

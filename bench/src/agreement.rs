@@ -1,4 +1,7 @@
-//! The comparison of the three implementations, before anything is timed.
+//! The comparison of the implementations, before anything is timed.
+
+mod checks;
+mod refusals;
 
 use curupira_reference::cipher::{allowed_rounds, decrypt, decryption_keys, encrypt, encrypt_with};
 use curupira_reference::error::Error;
@@ -6,7 +9,8 @@ use curupira_reference::generator::Generator;
 use curupira_reference::matrix::{Matrix, State};
 use curupira_reference::schedule::round_subkeys;
 
-use crate::interface::{Interface, LIBRARY, PLAIN};
+use crate::interface::{baselines, Interface, LIBRARY};
+use crate::others;
 
 const SEED: u64 = 1;
 
@@ -25,125 +29,107 @@ const UNTOUCHED: u8 = 0xA5;
 /// The number that a call answers, and its whole output.
 type Answer = (u32, Vec<u8>);
 
+/// How many inputs there were, and how many of them went to the independent
+/// program too.
+#[derive(Default)]
+struct Tally {
+    inputs: usize,
+    independent: usize,
+}
+
 /// Compares the implementations. An error says where they differ.
 pub fn check() -> Result<(), String> {
     let mut generator = Generator::new(SEED);
-    let (both, all) = check_keys(&mut generator)?;
+    let keys = check_keys(&mut generator)?;
     let lists = check_lists(&mut generator)?;
-    let refusals = check_refusals(&mut generator)?;
-    println!("agreement    {both} keys and blocks, on {all} of them all three implementations;");
-    println!("             {lists} arbitrary lists, on all of them all three;");
-    println!("             {refusals} calls with right and wrong lengths and numbers of rounds");
+    let refusals = refusals::check(&mut generator)?;
+    let (grants, opened) = checks::check(&mut generator)?;
+    let ciphers = check_others(&mut generator)?;
+    println!("agreement of the library and all C baselines on");
+    print_tally("keys and blocks", &keys);
+    print_tally("arbitrary lists", &lists);
+    print_tally("calls with right and wrong lengths and numbers", &refusals);
+    print_tally(&format!("grants, of which {opened} open"), &grants);
+    if ciphers > 0 {
+        println!("each cipher of libtomcrypt undoes what it does, and passes its own test");
+    }
     Ok(())
 }
 
+fn print_tally(what: &str, tally: &Tally) {
+    let Tally {
+        inputs,
+        independent,
+    } = tally;
+    println!("  {inputs:>6} {what}; the independent program on {independent} of them");
+}
+
 /// Random keys and blocks for all sizes that are allowed.
-fn check_keys(generator: &mut Generator) -> Result<(usize, usize), String> {
-    let (mut both, mut all) = (0, 0);
+fn check_keys(generator: &mut Generator) -> Result<Tally, String> {
+    let mut tally = Tally::default();
     for key_length in KEY_LENGTHS {
         for rounds in allowed_rounds(key_length).map_err(text)? {
-            for input in 0..INPUTS {
+            for _ in 0..INPUTS {
                 let key = generator.bytes(key_length);
                 let block = generator.bytes(12);
-                let what = format!("key {key:02x?}, {rounds} rounds, block {block:02x?}");
-                let library = answers(&LIBRARY, &key, rounds, &block);
-                same(&what, &library, &answers(&PLAIN, &key, rounds, &block))?;
-                both += 1;
-                if input % INDEPENDENT_STEP == 0 {
-                    let independent = independent_answers(&key, rounds, &block).map_err(text)?;
-                    same(&what, &library, &independent)?;
-                    all += 1;
-                }
+                check_key(&key, rounds, &block, &mut tally)?;
             }
         }
     }
-    Ok((both, all))
+    Ok(tally)
+}
+
+fn check_key(key: &[u8], rounds: usize, block: &[u8], tally: &mut Tally) -> Result<(), String> {
+    let what = format!("key {key:02x?}, {rounds} rounds, block {block:02x?}");
+    let library = same_in_c(&what, |one| answers(one, key, rounds, block))?;
+    if tally.inputs % INDEPENDENT_STEP == 0 {
+        let independent = independent_answers(key, rounds, block).map_err(text)?;
+        same(&what, "independent Rust", &library, &independent)?;
+        tally.independent += 1;
+    }
+    tally.inputs += 1;
+    Ok(())
 }
 
 /// Lists that come from no key, of every length that is allowed.
-fn check_lists(generator: &mut Generator) -> Result<usize, String> {
-    let mut count = 0;
+fn check_lists(generator: &mut Generator) -> Result<Tally, String> {
+    let mut tally = Tally::default();
     for subkeys in 11..=24 {
         for _ in 0..INPUTS / INDEPENDENT_STEP {
             let list = generator.bytes(12 * subkeys);
             let block = generator.bytes(12);
             let what = format!("list {list:02x?}, block {block:02x?}");
-            let library = answer(16, |out| LIBRARY.run(&list, &block, out));
-            let plain = answer(16, |out| PLAIN.run(&list, &block, out));
-            same(&what, &library, &plain)?;
+            let library = same_in_c(&what, |one| answer(16, |out| one.run(&list, &block, out)))?;
             let states = list.chunks(12).map(state_of).collect::<Result<Vec<_>, _>>();
             let independent = states
                 .and_then(|states| encrypt_with(&states, &state_of(&block)?))
                 .map_err(text)?;
-            same(&what, &library, &done(&independent.to_bytes(), 16))?;
-            count += 1;
+            let independent = done(&independent.to_bytes(), 16);
+            same(&what, "independent Rust", &library, &independent)?;
+            tally.inputs += 1;
+            tally.independent += 1;
         }
     }
-    Ok(count)
+    Ok(tally)
 }
 
-/// Lengths and numbers of rounds, most of which are refused.
-fn check_refusals(generator: &mut Generator) -> Result<usize, String> {
-    const SHORT: [usize; 6] = [0, 1, 11, 12, 13, 24];
-    let bytes = generator.bytes(400);
-    let mut count = 0;
-    for key_length in 0..=32 {
-        let key = &bytes[..key_length];
-        for rounds in (0..=32).chain([256, 266, 65_546, u32::MAX]) {
-            let full = 12 * (rounds as usize % 32 + 1);
-            for out_length in [0, full - 1, full, full + 1] {
-                let what = format!(
-                    "prepare: key of {key_length} bytes, {rounds} rounds, output of {out_length}"
-                );
-                let prepare = |one: &Interface| {
-                    [
-                        answer(out_length, |out| one.prepare_enciphering(key, rounds, out)),
-                        answer(out_length, |out| one.prepare_deciphering(key, rounds, out)),
-                    ]
-                };
-                same(&what, &prepare(&LIBRARY), &prepare(&PLAIN))?;
-                count += 2;
-            }
-            for block_length in SHORT {
-                let block = &bytes[32..32 + block_length];
-                let refused = encrypt(key, rounds as usize, block).is_err();
-                for out_length in SHORT {
-                    let what = format!(
-                        "cipher: key of {key_length} bytes, {rounds} rounds, \
-                         block of {block_length}, output of {out_length}"
-                    );
-                    let cipher = |one: &Interface| {
-                        [
-                            answer(out_length, |out| one.encipher(key, rounds, block, out)),
-                            answer(out_length, |out| one.decipher(key, rounds, block, out)),
-                        ]
-                    };
-                    let library = cipher(&LIBRARY);
-                    same(&what, &library, &cipher(&PLAIN))?;
-                    for (number, _) in library {
-                        same(&what, &(1..=3).contains(&number), &refused)?;
-                    }
-                    count += 2;
-                }
-            }
+/// The ciphers of libtomcrypt, each against itself and the test that it has.
+fn check_others(generator: &mut Generator) -> Result<usize, String> {
+    let ciphers = others::ciphers(12)
+        .into_iter()
+        .chain(others::ciphers(24))
+        .collect::<Vec<_>>();
+    for cipher in &ciphers {
+        same(&cipher.name, "its own test", &true, &cipher.passes)?;
+        for _ in 0..INPUTS {
+            let block = generator.bytes(cipher.block_bytes);
+            let (mut enciphered, mut deciphered) = (block.clone(), block.clone());
+            cipher.encipher(&block, &mut enciphered);
+            cipher.decipher(&enciphered, &mut deciphered);
+            same(&cipher.name, "undone", &block, &deciphered)?;
         }
     }
-    for list_length in 0..=310 {
-        let list = &bytes[..list_length];
-        for block_length in SHORT {
-            let block = &bytes[310..310 + block_length];
-            for out_length in SHORT {
-                let what = format!(
-                    "run: list of {list_length} bytes, block of {block_length}, \
-                     output of {out_length}"
-                );
-                let run = |one: &Interface| answer(out_length, |out| one.run(list, block, out));
-                same(&what, &run(&LIBRARY), &run(&PLAIN))?;
-                count += 1;
-            }
-        }
-    }
-    Ok(count)
+    Ok(ciphers.len())
 }
 
 /// The answers of all calls to one key and block: enciphering, deciphering, the
@@ -205,11 +191,29 @@ fn done(bytes: &[u8], out_length: usize) -> Answer {
     (0, out)
 }
 
-fn same<T: PartialEq + std::fmt::Debug>(what: &str, one: &T, other: &T) -> Result<(), String> {
-    if one == other {
+/// What the library answers, if every C baseline answers the same.
+fn same_in_c<T: PartialEq + std::fmt::Debug>(
+    what: &str,
+    ask: impl Fn(&Interface) -> T,
+) -> Result<T, String> {
+    let library = ask(&LIBRARY);
+    for baseline in baselines() {
+        same(what, baseline.name, &library, &ask(&baseline.interface))?;
+    }
+    Ok(library)
+}
+
+/// An error if the library and another implementation differ.
+fn same<T: PartialEq + std::fmt::Debug>(
+    what: &str,
+    who: &str,
+    library: &T,
+    other: &T,
+) -> Result<(), String> {
+    if library == other {
         Ok(())
     } else {
-        Err(format!("{what}: {one:02x?} and {other:02x?}"))
+        Err(format!("{what}: {library:02x?}; {who}: {other:02x?}"))
     }
 }
 

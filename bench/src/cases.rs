@@ -1,6 +1,5 @@
 //! What is timed: every operation of every implementation, as a batch of calls.
 
-use std::fmt;
 use std::hint::black_box;
 
 use curupira_reference::cipher::{decrypt, decryption_keys, encrypt, encrypt_with};
@@ -9,38 +8,57 @@ use curupira_reference::generator::Generator;
 use curupira_reference::matrix::{Matrix, State};
 use curupira_reference::schedule::round_subkeys;
 
-use crate::interface::{Interface, LIBRARY, PLAIN};
+use crate::interface::{baselines, Interface, LIBRARY};
+use crate::others::{self, Other};
+use crate::question::Question;
 
 const SEED: u64 = 2007;
 
-#[derive(Clone, Copy)]
+/// The bytes of a block of the library.
+const BLOCK_BYTES: usize = 12;
+
+/// The calls in one sample.
+const CALLS: usize = 256;
+
+/// The same for the independent program, which is slow.
+const INDEPENDENT_CALLS: usize = 2;
+
+/// A function that makes as many calls as it is told to.
+type Batch = Box<dyn FnMut(usize)>;
+
+#[derive(Clone, Copy, PartialEq, Eq)]
 pub enum Operation {
-    Run,
+    RunEnciphering,
     Encipher,
+    RunDeciphering,
     Decipher,
+    Check,
     PrepareEnciphering,
     PrepareDeciphering,
 }
 
 impl Operation {
-    pub const ALL: [Operation; 5] = [
-        Operation::Run,
+    pub const ALL: [Operation; 7] = [
+        Operation::RunEnciphering,
         Operation::Encipher,
+        Operation::RunDeciphering,
         Operation::Decipher,
+        Operation::Check,
         Operation::PrepareEnciphering,
         Operation::PrepareDeciphering,
     ];
-}
 
-impl fmt::Display for Operation {
-    fn fmt(&self, out: &mut fmt::Formatter<'_>) -> fmt::Result {
-        out.pad(match self {
-            Operation::Run => "encipher a block with a prepared list",
-            Operation::Encipher => "encipher a block with key set-up",
-            Operation::Decipher => "decipher a block with key set-up",
-            Operation::PrepareEnciphering => "prepare a list for enciphering",
-            Operation::PrepareDeciphering => "prepare a list for deciphering",
-        })
+    /// The two lines above its column.
+    pub fn heading(self) -> [&'static str; 2] {
+        match self {
+            Operation::RunEnciphering => ["encipher", "list"],
+            Operation::Encipher => ["encipher", "key"],
+            Operation::RunDeciphering => ["decipher", "list"],
+            Operation::Decipher => ["decipher", "key"],
+            Operation::Check => ["check", "key"],
+            Operation::PrepareEnciphering => ["prepare", "encipher"],
+            Operation::PrepareDeciphering => ["prepare", "decipher"],
+        }
     }
 }
 
@@ -63,69 +81,82 @@ pub const SIZES: [Size; 2] = [
     },
 ];
 
-#[derive(Clone, Copy)]
-pub enum Implementation {
-    Library,
-    PlainC,
-    Independent,
+/// One implementation of one operation.
+pub struct Contender {
+    pub name: String,
+    /// The bytes that a call works on, where that is not the library's block.
+    pub block_bytes: usize,
+    /// The calls in one sample.
+    pub calls: usize,
+    pub batch: Batch,
 }
 
-impl Implementation {
-    pub const ALL: [Implementation; 3] = [
-        Implementation::Library,
-        Implementation::PlainC,
-        Implementation::Independent,
-    ];
-
-    /// The calls in one sample. The independent program is slow.
-    pub fn calls(self) -> usize {
-        match self {
-            Implementation::Library | Implementation::PlainC => 256,
-            Implementation::Independent => 2,
+impl Contender {
+    fn new(name: &str, calls: usize, batch: Batch) -> Self {
+        Contender {
+            name: name.to_string(),
+            block_bytes: BLOCK_BYTES,
+            calls,
+            batch,
         }
     }
 
-    /// A function that makes as many calls of an operation as it is told to.
-    pub fn batch(self, operation: Operation, size: Size) -> Box<dyn FnMut(usize)> {
-        let mut generator = Generator::new(SEED);
-        let key = generator.bytes(size.key_length);
-        let block = generator.bytes(12);
-        match self {
-            Implementation::Library => c_batch(LIBRARY, operation, key, size.rounds, &block),
-            Implementation::PlainC => c_batch(PLAIN, operation, key, size.rounds, &block),
-            Implementation::Independent => {
-                let rounds = size.rounds as usize;
-                independent_batch(operation, key, rounds, block).expect("the size is allowed")
-            }
-        }
+    /// The untimed calls before each sample.
+    pub fn warm_up(&self) -> usize {
+        self.calls / 8 + 1
     }
 }
 
-impl fmt::Display for Implementation {
-    fn fmt(&self, out: &mut fmt::Formatter<'_>) -> fmt::Result {
-        out.pad(match self {
-            Implementation::Library => "library",
-            Implementation::PlainC => "plain C",
-            Implementation::Independent => "independent Rust",
-        })
+/// What an operation is timed with.
+struct Inputs {
+    block: Vec<u8>,
+    question: Question,
+}
+
+/// All implementations of an operation, in the order of the table's rows. The
+/// library is the first; other ciphers, which have some operations only, are last.
+pub fn contenders(operation: Operation, size: Size) -> Vec<Contender> {
+    let inputs = draw_inputs(size);
+    let c = |interface| c_batch(interface, operation, &inputs);
+    let mut all = vec![Contender::new("library", CALLS, c(LIBRARY))];
+    for baseline in baselines() {
+        all.push(Contender::new(baseline.name, CALLS, c(baseline.interface)));
+    }
+    let independent = independent_batch(operation, &inputs).expect("the size is allowed");
+    all.push(Contender::new(
+        "independent Rust",
+        INDEPENDENT_CALLS,
+        independent,
+    ));
+    let others = others::ciphers(size.key_length);
+    all.extend(others.into_iter().filter_map(|one| other(one, operation)));
+    all
+}
+
+/// The inputs, which are the same for all implementations and in every run.
+fn draw_inputs(size: Size) -> Inputs {
+    let mut generator = Generator::new(SEED);
+    let question = Question::that_opens(&mut generator, size.key_length, size.rounds);
+    assert!(LIBRARY.check(&question) >= 1000, "the grant opens");
+    Inputs {
+        block: generator.bytes(BLOCK_BYTES),
+        question,
     }
 }
 
-fn c_batch(
-    interface: Interface,
-    operation: Operation,
-    key: Vec<u8>,
-    rounds: u32,
-    block: &[u8],
-) -> Box<dyn FnMut(usize)> {
-    let block = <[u8; 12]>::try_from(block).expect("a block has 12 bytes");
-    let mut list = vec![0; 12 * (rounds as usize + 1)];
+fn c_batch(interface: Interface, operation: Operation, inputs: &Inputs) -> Batch {
+    let Inputs { block, question } = inputs;
+    let (block, question) = (block.clone(), question.clone());
+    let (key, rounds) = (question.key.clone(), question.rounds);
+    let mut list = vec![0; BLOCK_BYTES * (rounds as usize + 1)];
     match operation {
-        Operation::Run => {
+        Operation::RunEnciphering => {
             interface.prepare_enciphering(&key, rounds, &mut list);
-            chain(block, move |block, out| {
-                interface.run(black_box(&list), block, out)
-            })
+            c_run(interface, list, block)
+        }
+        Operation::RunDeciphering => {
+            interface.prepare_deciphering(&key, rounds, &mut list);
+            c_run(interface, list, block)
         }
         Operation::Encipher => chain(block, move |block, out| {
             interface.encipher(black_box(&key), rounds, block, out)
@@ -133,6 +164,7 @@ fn c_batch(
         Operation::Decipher => chain(block, move |block, out| {
             interface.decipher(black_box(&key), rounds, block, out)
         }),
+        Operation::Check => repeat(move || interface.check(black_box(&question))),
         Operation::PrepareEnciphering => repeat(move || {
             interface.prepare_enciphering(black_box(&key), rounds, black_box(&mut list))
         }),
@@ -142,19 +174,21 @@ fn c_batch(
     }
 }
 
-fn independent_batch(
-    operation: Operation,
-    key: Vec<u8>,
-    rounds: usize,
-    block: Vec<u8>,
-) -> Result<Box<dyn FnMut(usize)>, Error> {
+/// The engine over a list, whichever direction it is for.
+fn c_run(interface: Interface, list: Vec<u8>, block: Vec<u8>) -> Batch {
+    chain(block, move |block, out| {
+        interface.run(black_box(&list), block, out)
+    })
+}
+
+fn independent_batch(operation: Operation, inputs: &Inputs) -> Result<Batch, Error> {
+    let question = inputs.question.clone();
+    let block = inputs.block.clone();
+    let (key, rounds) = (question.key.clone(), question.rounds as usize);
     Ok(match operation {
-        Operation::Run => {
-            let subkeys = round_subkeys(&key, rounds)?;
-            let state: State = Matrix::from_bytes(&block).ok_or(Error::BlockLength(block.len()))?;
-            chain(state, move |state, out| {
-                *out = encrypt_with(black_box(&subkeys), state).expect("the list is long enough");
-            })
+        Operation::RunEnciphering => independent_run(round_subkeys(&key, rounds)?, &block)?,
+        Operation::RunDeciphering => {
+            independent_run(decryption_keys(&round_subkeys(&key, rounds)?)?, &block)?
         }
         Operation::Encipher => chain(block, move |block, out| {
             *out = encrypt(black_box(&key), rounds, block).expect("the size is allowed");
@@ -162,6 +196,10 @@ fn independent_batch(
         Operation::Decipher => chain(block, move |block, out| {
             *out = decrypt(black_box(&key), rounds, block).expect("the size is allowed");
         }),
+        Operation::Check => {
+            let roll = question.independent_roll().expect("the roll is one");
+            repeat(move || black_box(&question).independent_answer(black_box(&roll)))
+        }
         Operation::PrepareEnciphering => repeat(move || round_subkeys(black_box(&key), rounds)),
         Operation::PrepareDeciphering => repeat(move || {
             round_subkeys(black_box(&key), rounds).and_then(|subkeys| decryption_keys(&subkeys))
@@ -169,8 +207,39 @@ fn independent_batch(
     })
 }
 
-/// A batch in which the block that comes out of a call goes into the next one.
-fn chain<B, A, F>(start: B, mut call: F) -> Box<dyn FnMut(usize)>
+/// The independent program's engine over a list.
+fn independent_run(subkeys: Vec<State>, block: &[u8]) -> Result<Batch, Error> {
+    let state: State = Matrix::from_bytes(block).ok_or(Error::BlockLength(block.len()))?;
+    Ok(chain(state, move |state, out| {
+        *out = encrypt_with(black_box(&subkeys), state).expect("the list is long enough");
+    }))
+}
+
+/// A cipher of libtomcrypt, if it is timed for this operation.
+fn other(other: Other, operation: Operation) -> Option<Contender> {
+    let name = format!("{}, {}-byte block", other.name, other.block_bytes);
+    let block_bytes = other.block_bytes;
+    let block = Generator::new(SEED).bytes(block_bytes);
+    let batch = match operation {
+        Operation::RunEnciphering => chain(block, move |block, out| {
+            black_box(&other).encipher(block, out)
+        }),
+        Operation::RunDeciphering => chain(block, move |block, out| {
+            black_box(&other).decipher(block, out)
+        }),
+        _ => return None,
+    };
+    Some(Contender {
+        name,
+        block_bytes,
+        calls: CALLS,
+        batch,
+    })
+}
+
+/// A batch in which the block that comes out of a call goes into the next one. It is
+/// not copied in between.
+fn chain<B, A, F>(start: B, mut call: F) -> Batch
 where
     B: Clone + 'static,
     F: FnMut(&B, &mut B) -> A + 'static,
@@ -187,7 +256,7 @@ where
 }
 
 /// A batch in which all calls are the same.
-fn repeat<A, F>(mut call: F) -> Box<dyn FnMut(usize)>
+fn repeat<A, F>(mut call: F) -> Batch
 where
     F: FnMut() -> A + 'static,
 {

@@ -1,5 +1,7 @@
-//! The C interface that the library and the plain C baseline share. Both are
-//! called through the same function pointers, so that a call costs the same.
+//! The C interface that the library and the C baselines share. All are called
+//! through the same function pointers, so that a call costs the same.
+
+use crate::question::Question;
 
 type CipherCall =
     unsafe extern "C" fn(*const u8, usize, u32, *const u8, usize, *mut u8, usize) -> u32;
@@ -8,82 +10,21 @@ type PrepareCall = unsafe extern "C" fn(*const u8, usize, u32, *mut u8, usize) -
 
 type RunCall = unsafe extern "C" fn(*const u8, usize, *const u8, usize, *mut u8, usize) -> u32;
 
-/// Declares the five functions, and gathers them as an `Interface`.
-macro_rules! interface {
-    ($name:ident, $encipher:ident, $decipher:ident, $prepare_enciphering:ident,
-     $prepare_deciphering:ident, $run:ident) => {
-        extern "C" {
-            fn $encipher(
-                key: *const u8,
-                key_len: usize,
-                rounds: u32,
-                block: *const u8,
-                block_len: usize,
-                out: *mut u8,
-                out_len: usize,
-            ) -> u32;
-            fn $decipher(
-                key: *const u8,
-                key_len: usize,
-                rounds: u32,
-                block: *const u8,
-                block_len: usize,
-                out: *mut u8,
-                out_len: usize,
-            ) -> u32;
-            fn $prepare_enciphering(
-                key: *const u8,
-                key_len: usize,
-                rounds: u32,
-                out: *mut u8,
-                out_len: usize,
-            ) -> u32;
-            fn $prepare_deciphering(
-                key: *const u8,
-                key_len: usize,
-                rounds: u32,
-                out: *mut u8,
-                out_len: usize,
-            ) -> u32;
-            fn $run(
-                list: *const u8,
-                list_len: usize,
-                block: *const u8,
-                block_len: usize,
-                out: *mut u8,
-                out_len: usize,
-            ) -> u32;
-        }
+type CheckCall = unsafe extern "C" fn(
+    *const u8,
+    usize,
+    u32,
+    *const u8,
+    usize,
+    *const u8,
+    usize,
+    u32,
+    u32,
+) -> u32;
 
-        pub const $name: Interface = Interface {
-            encipher: $encipher,
-            decipher: $decipher,
-            prepare_enciphering: $prepare_enciphering,
-            prepare_deciphering: $prepare_deciphering,
-            run: $run,
-        };
-    };
-}
-
-interface!(
-    LIBRARY,
-    gordzila_encipher,
-    gordzila_decipher,
-    gordzila_prepare_enciphering,
-    gordzila_prepare_deciphering,
-    gordzila_run
-);
-
-interface!(
-    PLAIN,
-    plain_encipher,
-    plain_decipher,
-    plain_prepare_enciphering,
-    plain_prepare_deciphering,
-    plain_run
-);
-
-/// The five calls. Each answers 0, or the number of a refusal.
+/// The six calls, in the order of `struct baseline` in baseline.h. Each answers 0,
+/// or the number of a refusal, or, for a check that opens, 1000 or more.
+#[repr(C)]
 #[derive(Clone, Copy)]
 pub struct Interface {
     encipher: CipherCall,
@@ -91,6 +32,105 @@ pub struct Interface {
     prepare_enciphering: PrepareCall,
     prepare_deciphering: PrepareCall,
     run: RunCall,
+    check: CheckCall,
+}
+
+extern "C" {
+    fn gordzila_encipher(
+        key: *const u8,
+        key_length: usize,
+        rounds: u32,
+        block: *const u8,
+        block_length: usize,
+        out: *mut u8,
+        out_length: usize,
+    ) -> u32;
+    fn gordzila_decipher(
+        key: *const u8,
+        key_length: usize,
+        rounds: u32,
+        block: *const u8,
+        block_length: usize,
+        out: *mut u8,
+        out_length: usize,
+    ) -> u32;
+    fn gordzila_prepare_enciphering(
+        key: *const u8,
+        key_length: usize,
+        rounds: u32,
+        out: *mut u8,
+        out_length: usize,
+    ) -> u32;
+    fn gordzila_prepare_deciphering(
+        key: *const u8,
+        key_length: usize,
+        rounds: u32,
+        out: *mut u8,
+        out_length: usize,
+    ) -> u32;
+    fn gordzila_run(
+        list: *const u8,
+        list_length: usize,
+        block: *const u8,
+        block_length: usize,
+        out: *mut u8,
+        out_length: usize,
+    ) -> u32;
+    fn gordzila_check(
+        key: *const u8,
+        key_length: usize,
+        rounds: u32,
+        roll: *const u8,
+        roll_length: usize,
+        grant: *const u8,
+        grant_length: usize,
+        size_block: u32,
+        right: u32,
+    ) -> u32;
+}
+
+pub const LIBRARY: Interface = Interface {
+    encipher: gordzila_encipher,
+    decipher: gordzila_decipher,
+    prepare_enciphering: gordzila_prepare_enciphering,
+    prepare_deciphering: gordzila_prepare_deciphering,
+    run: gordzila_run,
+    check: gordzila_check,
+};
+
+// What the C files give out, once for every compiler and set of flags.
+extern "C" {
+    static plain_c: Interface;
+    static plain_scalar: Interface;
+    #[cfg(bench_clang)]
+    static plain_clang: Interface;
+    static table_c: Interface;
+    static table_scalar: Interface;
+}
+
+/// A C file under one compiler and one set of flags.
+pub struct Baseline {
+    pub name: &'static str,
+    pub interface: Interface,
+}
+
+/// The baselines. The first is plain C, which the targets are set against.
+pub fn baselines() -> Vec<Baseline> {
+    let one = |name, interface: &Interface| Baseline {
+        name,
+        interface: *interface,
+    };
+    // The structures are constant, and their calls have the types above.
+    unsafe {
+        vec![
+            one("plain C", &plain_c),
+            one("plain C, no SLP", &plain_scalar),
+            #[cfg(bench_clang)]
+            one("plain C, clang", &plain_clang),
+            one("table C", &table_c),
+            one("table C, no SLP", &table_scalar),
+        ]
+    }
 }
 
 // Every pointer below comes from a slice that is borrowed for the whole call,
@@ -126,6 +166,23 @@ impl Interface {
                 block.len(),
                 out.as_mut_ptr(),
                 out.len(),
+            )
+        }
+    }
+
+    #[inline(always)]
+    pub fn check(&self, question: &Question) -> u32 {
+        unsafe {
+            (self.check)(
+                question.key.as_ptr(),
+                question.key.len(),
+                question.rounds,
+                question.roll.as_ptr(),
+                question.roll.len(),
+                question.grant.as_ptr(),
+                question.grant.len(),
+                question.size_block,
+                question.right,
             )
         }
     }

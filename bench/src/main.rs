@@ -1,11 +1,15 @@
-//! Times the proved library beside plain C and the independent Rust program.
+//! Times the proved library beside C baselines, the independent Rust program and
+//! ciphers of libtomcrypt.
 //!
-//! All three are first compared on pseudo-random inputs; nothing is timed
-//! unless they agree.
+//! All are first compared on pseudo-random inputs; nothing is timed unless they
+//! agree.
 
 mod agreement;
 mod cases;
 mod interface;
+mod others;
+mod question;
+mod table;
 mod timing;
 
 use std::env;
@@ -33,16 +37,26 @@ fn main() -> ExitCode {
         return ExitCode::FAILURE;
     }
     println!();
-    timing::print_table(samples);
+    table::print(samples);
     ExitCode::SUCCESS
 }
 
 /// Prints what the figures depend on.
 fn describe() {
-    println!("machine      {}", machine());
-    println!("library      {}", env!("BENCH_LIBRARY"));
-    println!("plain C      {}", env!("BENCH_PLAIN"));
-    println!("independent  {}", env!("BENCH_INDEPENDENT"));
+    let lines = [
+        ("machine", machine()),
+        ("library", env!("BENCH_LIBRARY").to_string()),
+        ("plain C", env!("BENCH_PLAIN_C").to_string()),
+        ("plain C, no SLP", env!("BENCH_PLAIN_SCALAR").to_string()),
+        ("plain C, clang", env!("BENCH_PLAIN_CLANG").to_string()),
+        ("table C", env!("BENCH_TABLE_C").to_string()),
+        ("table C, no SLP", env!("BENCH_TABLE_SCALAR").to_string()),
+        ("independent Rust", env!("BENCH_INDEPENDENT").to_string()),
+        ("libtomcrypt", others::version()),
+    ];
+    for (name, text) in lines {
+        println!("{name:<18}{text}");
+    }
 }
 
 fn machine() -> String {

@@ -1,90 +1,50 @@
-//! Samples the implementations in turn, and prints the table.
+//! Samples the implementations of an operation in turn.
 
 use std::time::Instant;
 
-use crate::cases::{Implementation, Operation, Size, SIZES};
+use curupira_reference::generator::Generator;
 
-/// The orders in which the implementations are sampled, so that none of them
-/// always comes after the same other one.
-const ORDERS: [[usize; 3]; 6] = [
-    [0, 1, 2],
-    [1, 2, 0],
-    [2, 0, 1],
-    [0, 2, 1],
-    [2, 1, 0],
-    [1, 0, 2],
-];
+use crate::cases::Contender;
+
+const SEED: u64 = 3;
 
 /// Nanoseconds for one call.
-struct Times {
-    median: f64,
-    least: f64,
+#[derive(Clone, Copy)]
+pub struct Times {
+    pub median: f64,
+    pub least: f64,
 }
 
-pub fn print_table(samples: usize) {
-    println!("nanoseconds for a block or a list; {samples} samples each, taken in turn");
-    for implementation in Implementation::ALL {
-        println!(
-            "  {implementation:<17} {:>4} calls in a sample, after {} untimed",
-            implementation.calls(),
-            warm_up(implementation)
-        );
-    }
-    for size in SIZES {
-        println!();
-        println!(
-            "{:<41}{:>11}{:>11}{:>20}",
-            format!("{}-byte key, {} rounds", size.key_length, size.rounds),
-            "median",
-            "least",
-            "times plain C"
-        );
-        println!(
-            "{:<41}{:>11}{:>11}{:>10}{:>10}",
-            "", "ns", "ns", "median", "least"
-        );
-        for operation in Operation::ALL {
-            print_operation(operation, size, samples);
+/// The times of the contenders, in their order. For each round of samples the
+/// order in which they are taken is drawn anew, so that none of them always comes
+/// after the same other one.
+pub fn measure(contenders: &mut [Contender], samples: usize) -> Vec<Times> {
+    let mut generator = Generator::new(SEED);
+    let mut taken = vec![Vec::with_capacity(samples); contenders.len()];
+    for _ in 0..samples {
+        for index in draw_order(&mut generator, contenders.len()) {
+            taken[index].push(sample(&mut contenders[index]));
         }
     }
+    taken.into_iter().map(summary).collect()
 }
 
-fn print_operation(operation: Operation, size: Size, samples: usize) {
-    let times = measure(operation, size, samples);
-    let plain = &times[Implementation::PlainC as usize];
-    println!("{operation}");
-    for implementation in Implementation::ALL {
-        let own = &times[implementation as usize];
-        println!(
-            "  {implementation:<39}{:>11.1}{:>11.1}{:>10.2}{:>10.2}",
-            own.median,
-            own.least,
-            own.median / plain.median,
-            own.least / plain.least
-        );
+/// The nanoseconds for a call, from one batch.
+fn sample(one: &mut Contender) -> f64 {
+    let untimed = one.warm_up();
+    (one.batch)(untimed);
+    let start = Instant::now();
+    (one.batch)(one.calls);
+    start.elapsed().as_nanos() as f64 / one.calls as f64
+}
+
+/// The numbers below `count`, shuffled.
+fn draw_order(generator: &mut Generator, count: usize) -> Vec<usize> {
+    let mut order = (0..count).collect::<Vec<_>>();
+    for last in (1..count).rev() {
+        order.swap(last, usize::from(generator.byte()) % (last + 1));
     }
-}
-
-/// The times of the implementations, in the order of `Implementation::ALL`.
-fn measure(operation: Operation, size: Size, samples: usize) -> [Times; 3] {
-    let mut batches = Implementation::ALL.map(|one| one.batch(operation, size));
-    let mut taken = [(); 3].map(|()| Vec::with_capacity(samples));
-    for sample in 0..samples {
-        for index in ORDERS[sample % ORDERS.len()] {
-            let one = Implementation::ALL[index];
-            let batch = &mut batches[index];
-            batch(warm_up(one));
-            let start = Instant::now();
-            batch(one.calls());
-            taken[index].push(start.elapsed().as_nanos() as f64 / one.calls() as f64);
-        }
-    }
-    taken.map(summary)
-}
-
-/// The untimed calls before each sample.
-fn warm_up(implementation: Implementation) -> usize {
-    implementation.calls() / 8 + 1
+    order
 }
 
 fn summary(mut taken: Vec<f64>) -> Times {

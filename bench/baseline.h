@@ -1,0 +1,78 @@
+/*
+ * The calls of a C baseline of the benchmark. They take the same arguments and
+ * give the same answers as those of the proved library: 0, or the number of the
+ * reason for which a call refuses; a check that opens gives 1,000 times the
+ * right plus the contractor. A call that refuses leaves the output as it was.
+ *
+ * Each C file is compiled once for every compiler and set of flags, and gives
+ * out one struct baseline, under the name that -DBASELINE=... chooses.
+ */
+#ifndef BASELINE_H
+#define BASELINE_H
+
+#include <stddef.h>
+#include <stdint.h>
+
+enum {
+    ROWS = 3,
+    COLUMNS = 4,
+    BLOCK = ROWS * COLUMNS,
+    MOST_KEY_COLUMNS = 8,
+    LEAST_ROUNDS = 10,
+    MOST_ROUNDS = 23,
+    MOST_LIST = BLOCK * (MOST_ROUNDS + 1),
+    CONTRACTORS = 200,
+    ROLL = 2 * CONTRACTORS
+};
+
+enum answer {
+    DONE = 0,
+    KEY_LENGTH = 1,
+    ROUND_COUNT = 2,
+    INPUT_LENGTH = 3,
+    OUTPUT_TOO_SHORT = 4,
+    LIST_LENGTH = 5,
+    RIGHT = 7,
+    NOT_A_GRANT = 8,
+    OTHER_BLOCK = 9,
+    OTHER_RIGHT = 10,
+    NOT_IN_STANDING = 20,
+    OTHER_COUNT = 23
+};
+
+enum direction { ENCIPHERING, DECIPHERING };
+
+/* One block of 12 bytes, with key set-up. */
+typedef uint32_t cipher_call(const uint8_t *key, size_t key_len,
+                             uint32_t rounds,
+                             const uint8_t *block, size_t block_len,
+                             uint8_t *out, size_t out_len);
+
+/* The subkey list for one direction: 12(rounds + 1) bytes. */
+typedef uint32_t prepare_call(const uint8_t *key, size_t key_len,
+                              uint32_t rounds, uint8_t *out, size_t out_len);
+
+/* One block of 12 bytes under a list of 11 to 24 subkeys. */
+typedef uint32_t run_call(const uint8_t *list, size_t list_len,
+                          const uint8_t *block, size_t block_len,
+                          uint8_t *out, size_t out_len);
+
+/* A grant of 12 bytes, with key set-up, against a roll of 400 bytes. */
+typedef uint32_t check_call(const uint8_t *key, size_t key_len,
+                            uint32_t rounds,
+                            const uint8_t *roll, size_t roll_len,
+                            const uint8_t *grant, size_t grant_len,
+                            uint32_t size_block, uint32_t right);
+
+struct baseline {
+    cipher_call *encipher;
+    cipher_call *decipher;
+    prepare_call *prepare_enciphering;
+    prepare_call *prepare_deciphering;
+    run_call *run;
+    check_call *check;
+};
+
+extern const struct baseline BASELINE;
+
+#endif

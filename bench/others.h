@@ -1,0 +1,30 @@
+/*
+ * Ciphers of libtomcrypt for the benchmark: 0 Skipjack, 1 Khazad, 2 Anubis, 3 AES.
+ */
+#ifndef OTHERS_H
+#define OTHERS_H
+
+#include <stddef.h>
+#include <stdint.h>
+
+/* libtomcrypt's own type for a prepared key. */
+union Symmetric_key;
+
+/* One block under a prepared key. It answers 0, or an error of libtomcrypt. */
+typedef int others_call(const uint8_t *block, uint8_t *out,
+                        union Symmetric_key *prepared);
+
+const char *others_version(void);
+size_t others_block_bytes(unsigned which);
+
+/* A prepared key, or NULL if the length is wrong or memory is short. */
+union Symmetric_key *others_prepare(unsigned which, const uint8_t *key,
+                                    size_t key_len);
+void others_release(unsigned which, union Symmetric_key *prepared);
+
+/* Whether the cipher passes its own test, if libtomcrypt was built with it. */
+int others_passes(unsigned which);
+others_call *others_encipher(unsigned which);
+others_call *others_decipher(unsigned which);
+
+#endif

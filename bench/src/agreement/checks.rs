@@ -1,0 +1,91 @@
+//! Checks of grants, good ones and such as are wrong in one or two ways.
+
+use std::collections::BTreeSet;
+
+use curupira_reference::cipher::allowed_rounds;
+use curupira_reference::generator::Generator;
+
+use super::{same, same_in_c, text, Tally, INDEPENDENT_STEP, INPUTS, KEY_LENGTHS};
+use crate::question::{draw_counts, draw_grant, draw_number, enciphered, roll_bytes, Question};
+
+/// The reasons for which a grant of the right length is refused. All of them have
+/// to occur.
+const REASONS: [u32; 5] = [8, 9, 10, 20, 23];
+
+/// The ways in which a grant is made wrong are 0 to 7; from there on it is left.
+const WAYS: u8 = 20;
+
+/// The number of grants, and how many of them open.
+pub fn check(generator: &mut Generator) -> Result<(Tally, usize), String> {
+    let mut tally = Tally::default();
+    let mut opened = 0;
+    let mut refusals = BTreeSet::new();
+    for key_length in KEY_LENGTHS {
+        for rounds in allowed_rounds(key_length).map_err(text)? {
+            for _ in 0..INPUTS {
+                let question = draw_question(generator, key_length, rounds as u32);
+                match check_question(&question, &mut tally)? {
+                    1000.. => opened += 1,
+                    refusal => drop(refusals.insert(refusal)),
+                }
+            }
+        }
+    }
+    if opened > 0 && refusals == BTreeSet::from(REASONS) {
+        Ok((tally, opened))
+    } else {
+        Err(format!(
+            "{opened} grants open; the reasons are {refusals:?}"
+        ))
+    }
+}
+
+/// The library's answer, if the others give the same.
+fn check_question(question: &Question, tally: &mut Tally) -> Result<u32, String> {
+    let what = format!("{question:02x?}");
+    let library = same_in_c(&what, |one| one.check(question))?;
+    if tally.inputs % INDEPENDENT_STEP == 0 {
+        let roll = question.independent_roll();
+        let independent = roll.and_then(|roll| question.independent_answer(&roll));
+        same(&what, "independent Rust", &Some(library), &independent)?;
+        tally.independent += 1;
+    }
+    tally.inputs += 1;
+    Ok(library)
+}
+
+/// A grant that opens, but for what two draws make wrong.
+fn draw_question(generator: &mut Generator, key_length: usize, rounds: u32) -> Question {
+    let ways = [generator.byte() % WAYS, generator.byte() % WAYS];
+    let mut counts = draw_counts(generator);
+    let mut grant = draw_grant(generator, &mut counts);
+    let (size_block, right, place) = (grant.block, grant.right, grant.contractor - 1);
+    for way in ways {
+        match way {
+            0 => grant.contractor = 0,
+            1 => grant.contractor = 201 + draw_number(generator, 1) as u16,
+            2 => grant.right = 3 * (right - 1),
+            3 => grant.block ^= 1 << (generator.byte() % 32),
+            4 => grant.right = 3 - right,
+            5 => grant.count ^= 1 << (generator.byte() % 16),
+            6 => {
+                counts[usize::from(place)] =
+                    [0, 65_534, 65_535, 2][usize::from(generator.byte() % 4)]
+            }
+            _ => {}
+        }
+    }
+    let mut plain = grant.plain_bytes();
+    if ways.contains(&7) {
+        plain[9 + usize::from(generator.byte() % 3)] ^= 1 << (generator.byte() % 8);
+    }
+    let key = generator.bytes(key_length);
+    Question {
+        grant: enciphered(&key, rounds, &plain),
+        key,
+        rounds,
+        roll: roll_bytes(&counts),
+        size_block,
+        right: u32::from(right),
+    }
+}

@@ -1,0 +1,106 @@
+//! Prints the tables: for each size the median times, and the library's times as
+//! multiples of the others.
+
+use crate::cases::{contenders, Contender, Operation, Size, SIZES};
+use crate::timing::{measure, Times};
+
+/// The width of the names of the rows.
+const NAMES: usize = 38;
+
+/// A time of one implementation, and the bytes of its block.
+struct Cell {
+    times: Times,
+    block_bytes: usize,
+}
+
+/// A row: the cells of one implementation, in the order of `Operation::ALL`.
+struct Row {
+    name: String,
+    cells: Vec<Option<Cell>>,
+}
+
+pub fn print(samples: usize) {
+    println!("{samples} samples of each, taken in turn; a sample is a batch of calls");
+    for size in SIZES {
+        let rows = rows(size, samples);
+        println!();
+        let title = format!("{}-byte key, {} rounds", size.key_length, size.rounds);
+        print_line(&title, Operation::ALL.map(|one| one.heading()[0]));
+        print_line("", Operation::ALL.map(|one| one.heading()[1]));
+        print_times(&rows);
+        print_ratios("library's time / this time, medians", &rows, |t| t.median);
+        print_ratios("library's time / this time, least", &rows, |t| t.least);
+    }
+}
+
+/// Measures all operations for one size.
+fn rows(size: Size, samples: usize) -> Vec<Row> {
+    let mut rows = Vec::new();
+    for (column, operation) in Operation::ALL.into_iter().enumerate() {
+        let mut contenders = contenders(operation, size);
+        let times = measure(&mut contenders, samples);
+        for (contender, times) in contenders.iter().zip(times) {
+            let row = row_of(&mut rows, contender);
+            row.cells[column] = Some(Cell {
+                times,
+                block_bytes: contender.block_bytes,
+            });
+        }
+    }
+    rows
+}
+
+/// The row of an implementation, which is added if it is new.
+fn row_of<'a>(rows: &'a mut Vec<Row>, contender: &Contender) -> &'a mut Row {
+    let found = rows.iter().position(|row| row.name == contender.name);
+    let index = found.unwrap_or_else(|| {
+        rows.push(Row {
+            name: contender.name.clone(),
+            cells: Operation::ALL.map(|_| None).into(),
+        });
+        rows.len() - 1
+    });
+    &mut rows[index]
+}
+
+fn print_times(rows: &[Row]) {
+    println!("nanoseconds for a call, medians");
+    for row in rows {
+        let cells = row.cells.iter().map(|cell| match cell {
+            Some(cell) => format!("{:.0}", cell.times.median),
+            None => String::new(),
+        });
+        print_line(&format!("  {}", row.name), cells);
+    }
+}
+
+/// The library's time, divided by that of every other row. Where the blocks have
+/// different lengths, it is the times for a byte that are divided.
+fn print_ratios(title: &str, rows: &[Row], time: impl Fn(&Times) -> f64) {
+    println!("{title}");
+    let per_byte = |cell: &Cell| time(&cell.times) / cell.block_bytes as f64;
+    let (library, others) = rows.split_first().expect("the library has a row");
+    for row in others {
+        let pairs = library.cells.iter().zip(&row.cells);
+        let cells = pairs.map(|pair| match pair {
+            (Some(own), Some(other)) => ratio(per_byte(own) / per_byte(other)),
+            _ => String::new(),
+        });
+        print_line(&format!("  {}", row.name), cells);
+    }
+}
+
+/// A ratio, with as many places as say something.
+fn ratio(value: f64) -> String {
+    if value < 0.1 {
+        format!("{value:.4}")
+    } else {
+        format!("{value:.2}")
+    }
+}
+
+fn print_line<T: std::fmt::Display>(name: &str, cells: impl IntoIterator<Item = T>) {
+    let cells = cells.into_iter().map(|cell| format!("{cell:>10}"));
+    let line = format!("{name:<NAMES$}{}", cells.collect::<String>());
+    println!("{}", line.trim_end());
+}

@@ -1,0 +1,145 @@
+//! The subcommands. Each reads its options, makes its call and says what to print.
+
+use crate::failure::{Answer, Failure};
+use crate::options::{
+    Options, BLOCK, CONTRACTOR, GRANT, KEY, KEY_FILE, RIGHT, ROLL, ROUNDS, STAGE,
+};
+use crate::{help, hex, rolls};
+use gordzila::{raw, Reason, Roll, BLOCK_BYTES, CONTRACTORS};
+use std::ffi::{OsStr, OsString};
+
+/// A call that writes 12 bytes under a key, for a block of 12 bytes.
+type CipherCall = fn(&[u8], u32, &[u8], &mut [u8]) -> Result<(), Reason>;
+
+/// A call that changes a roll.
+type RollCall = fn(&mut Roll, u32) -> Result<(), Reason>;
+
+/// Runs the subcommand that a word names, on the words after it.
+pub fn run(name: &OsStr, words: &[OsString]) -> Answer {
+    let name = known(name)?;
+    if asks_for_help(words) {
+        return Ok(help::of(name));
+    }
+    match name {
+        "issue" => issue(words),
+        "check" => check(words),
+        "encipher" => cipher(words, raw::encipher),
+        "decipher" => cipher(words, raw::decipher),
+        "stage" => stage(words),
+        "enter" => change(words, "entered", Roll::enter),
+        "withdraw" => change(words, "withdrawn", Roll::withdraw),
+        _ => roll(words),
+    }
+}
+
+/// The subcommand that a word names.
+pub fn known(name: &OsStr) -> Result<&'static str, Failure> {
+    help::NAMES
+        .into_iter()
+        .find(|known| name == OsStr::new(known))
+        .ok_or_else(|| Failure::usage(format!("`{}` is no subcommand", name.to_string_lossy())))
+}
+
+/// No option takes a value that starts with `--`, so that `--help` is never one.
+fn asks_for_help(words: &[OsString]) -> bool {
+    words.iter().any(|word| word == "--help") || words.first().map_or(false, |word| word == "help")
+}
+
+fn issue(words: &[OsString]) -> Answer {
+    let allowed = [KEY, KEY_FILE, ROUNDS, ROLL, CONTRACTOR, BLOCK, RIGHT];
+    let options = Options::parse(words, &allowed)?;
+    let mut grant = [0; BLOCK_BYTES];
+    raw::issue(
+        &options.key()?,
+        options.number(ROUNDS)?,
+        options.roll()?.bytes(),
+        options.number(CONTRACTOR)?,
+        options.number(BLOCK)?,
+        options.right()?,
+        &mut grant,
+    )?;
+    Ok(line_of(&grant))
+}
+
+fn check(words: &[OsString]) -> Answer {
+    let allowed = [KEY, KEY_FILE, ROUNDS, ROLL, GRANT, BLOCK, RIGHT];
+    let options = Options::parse(words, &allowed)?;
+    let opened = raw::check(
+        &options.key()?,
+        options.number(ROUNDS)?,
+        options.roll()?.bytes(),
+        &options.bytes(GRANT)?,
+        options.number(BLOCK)?,
+        options.right()?,
+    )?;
+    let (contractor, right) = (opened.contractor, opened.right);
+    Ok(format!("opens: contractor {contractor}, {right}\n"))
+}
+
+fn cipher(words: &[OsString], call: CipherCall) -> Answer {
+    let options = Options::parse(words, &[KEY, KEY_FILE, ROUNDS, BLOCK])?;
+    let mut block = [0; BLOCK_BYTES];
+    call(
+        &options.key()?,
+        options.number(ROUNDS)?,
+        &options.bytes(BLOCK)?,
+        &mut block,
+    )?;
+    Ok(line_of(&block))
+}
+
+fn stage(words: &[OsString]) -> Answer {
+    let options = Options::parse(words, &[KEY, KEY_FILE, STAGE])?;
+    let (key, n) = (options.key()?, options.number(STAGE)?);
+    let stage = hex::digits_of(&gordzila::stage(&key, n)?);
+    let subkey = hex::digits_of(&gordzila::subkey(&key, n)?);
+    Ok(format!("stage {n}: {stage}\nsubkey {n}: {subkey}\n"))
+}
+
+fn change(words: &[OsString], done: &str, call: RollCall) -> Answer {
+    let options = Options::parse(words, &[ROLL, CONTRACTOR])?;
+    let contractor = options.number(CONTRACTOR)?;
+    let roll = rolls::change(options.roll_path()?, |roll| call(roll, contractor))?;
+    Ok(format!("{done}: {}", line_on(&roll, contractor)))
+}
+
+fn roll(words: &[OsString]) -> Answer {
+    let (verb, rest) = words
+        .split_first()
+        .ok_or_else(|| Failure::usage("roll needs `make` or `list`"))?;
+    match verb.to_str() {
+        Some("make") => make(rest),
+        Some("list") => list(rest),
+        _ => Err(Failure::usage(format!(
+            "roll needs `make` or `list`, not `{}`",
+            verb.to_string_lossy()
+        ))),
+    }
+}
+
+fn make(words: &[OsString]) -> Answer {
+    let options = Options::parse(words, &[ROLL])?;
+    rolls::make(options.roll_path()?)?;
+    Ok("made: a roll on which nobody was ever entered\n".to_string())
+}
+
+fn list(words: &[OsString]) -> Answer {
+    let roll = Options::parse(words, &[ROLL])?.roll()?;
+    let lines: String = (1..=CONTRACTORS)
+        .filter(|&contractor| roll.in_standing(contractor))
+        .map(|contractor| line_on(&roll, contractor))
+        .collect();
+    if lines.is_empty() {
+        return Ok("nobody is in standing\n".to_string());
+    }
+    Ok(lines)
+}
+
+fn line_of(bytes: &[u8]) -> String {
+    hex::digits_of(bytes) + "\n"
+}
+
+fn line_on(roll: &Roll, contractor: u32) -> String {
+    let count = roll.count(contractor).unwrap_or_default();
+    format!("contractor {contractor}, count {count}\n")
+}

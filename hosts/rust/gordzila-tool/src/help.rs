@@ -1,0 +1,157 @@
+//! What `help` and `--help` print.
+
+use crate::commands;
+use crate::failure::{Answer, Failure};
+use std::ffi::OsString;
+
+/// The subcommands.
+pub const NAMES: [&str; 8] = [
+    "issue", "check", "encipher", "decipher", "stage", "enter", "withdraw", "roll",
+];
+
+/// The help that the words after `help` ask for.
+pub fn wanted(words: &[OsString]) -> Answer {
+    match words {
+        [] => Ok(TOOL.to_string()),
+        [name] => commands::known(name).map(of),
+        _ => Err(Failure::usage("help takes one subcommand")),
+    }
+}
+
+/// The help of a subcommand.
+pub fn of(name: &str) -> String {
+    let text = match name {
+        "issue" => ISSUE,
+        "check" => CHECK,
+        "encipher" => ENCIPHER,
+        "decipher" => DECIPHER,
+        "stage" => STAGE,
+        "enter" => ENTER,
+        "withdraw" => WITHDRAW,
+        _ => ROLL,
+    };
+    text.to_string()
+}
+
+const TOOL: &str = "\
+Asks the proved access-control library of the pattern store.
+
+usage: gordzila SUBCOMMAND OPTIONS
+
+  issue      issue a grant
+  check      check a grant
+  encipher   encipher one block
+  decipher   decipher one block
+  stage      show a stage of a key and its subkey
+  enter      enter a contractor on a roll
+  withdraw   withdraw a contractor on a roll
+  roll       make an empty roll, or list who is in standing
+
+  gordzila help SUBCOMMAND   the options of a subcommand
+  gordzila --version         the version of the tool
+
+Options stand in any order, each with its value as the next word. Keys, blocks
+and grants are hexadecimal digits with nothing between them; size blocks go by
+number, and numbers are decimal.
+A key on the command line is seen by others on the machine: use --key-file.
+
+exit status: 0 done, or the grant opens; 1 refused, with the number and the
+reason on standard error; 2 bad usage, or a file that cannot be used.
+";
+
+const ISSUE: &str = "\
+Issues a grant and prints its 12 bytes.
+
+usage: gordzila issue OPTIONS
+
+  --key HEX         the maker's key, 12, 18 or 24 bytes
+  --key-file FILE   the same, from a file of hexadecimal digits
+  --rounds N        10 to 11, 14 to 17 or 18 to 23, by the key's length
+  --roll FILE       the roll, 400 bytes
+  --contractor N    1 to 200, in standing
+  --block N         the number of the size block
+  --right R         reading or overwriting, or 1 or 2
+";
+
+const CHECK: &str = "\
+Checks a grant; if it opens, prints its contractor and right.
+
+usage: gordzila check OPTIONS
+
+  --key HEX         the maker's key, 12, 18 or 24 bytes
+  --key-file FILE   the same, from a file of hexadecimal digits
+  --rounds N        10 to 11, 14 to 17 or 18 to 23, by the key's length
+  --roll FILE       the roll, 400 bytes
+  --grant HEX       the grant, 12 bytes
+  --block N         the number of the size block asked for
+  --right R         the right asked for: reading or overwriting, or 1 or 2
+";
+
+const ENCIPHER: &str = "\
+Enciphers one block and prints its 12 bytes.
+
+usage: gordzila encipher OPTIONS
+
+  --key HEX         the key, 12, 18 or 24 bytes
+  --key-file FILE   the same, from a file of hexadecimal digits
+  --rounds N        10 to 11, 14 to 17 or 18 to 23, by the key's length
+  --block HEX       the block, 12 bytes
+";
+
+const DECIPHER: &str = "\
+Deciphers one block and prints its 12 bytes.
+
+usage: gordzila decipher OPTIONS
+
+  --key HEX         the key, 12, 18 or 24 bytes
+  --key-file FILE   the same, from a file of hexadecimal digits
+  --rounds N        10 to 11, 14 to 17 or 18 to 23, by the key's length
+  --block HEX       the block, 12 bytes
+";
+
+const STAGE: &str = "\
+Shows a stage of a key, 24 bytes with zeros past the key's length, and the
+stage's subkey, 12 bytes.
+
+usage: gordzila stage OPTIONS
+
+  --key HEX         the key, 12, 18 or 24 bytes
+  --key-file FILE   the same, from a file of hexadecimal digits
+  --stage N         the number of the stage, below the key's length in bytes
+";
+
+const ENTER: &str = "\
+Enters a contractor on the roll in a file.
+
+usage: gordzila enter OPTIONS
+
+  --roll FILE       the roll, 400 bytes; it is replaced as a whole
+  --contractor N    1 to 200, not in standing
+
+While it works there is a file FILE.lock, and no other change of the roll
+starts. A process that was killed may leave it; then remove it.
+";
+
+const WITHDRAW: &str = "\
+Withdraws a contractor on the roll in a file.
+
+usage: gordzila withdraw OPTIONS
+
+  --roll FILE       the roll, 400 bytes; it is replaced as a whole
+  --contractor N    1 to 200, in standing
+
+While it works there is a file FILE.lock, and no other change of the roll
+starts. A process that was killed may leave it; then remove it.
+";
+
+const ROLL: &str = "\
+Makes a roll on which nobody was ever entered, or lists those in standing.
+
+usage: gordzila roll make --roll FILE
+       gordzila roll list --roll FILE
+
+  --roll FILE       the roll, 400 bytes
+
+`make` does not replace a file: on a roll that starts anew, revoked grants may
+open again.
+";

@@ -1,0 +1,72 @@
+//! Rolls in files: the 400 bytes of the C call, and nothing else.
+
+use crate::failure::Failure;
+use crate::lock::Lock;
+use crate::options::ROLL;
+use crate::replace::replace;
+use gordzila::{Reason, Roll, ROLL_BYTES};
+use std::fs::{self, File};
+use std::io::{self, Read};
+use std::path::{Path, PathBuf};
+
+/// The roll in a file.
+pub fn read(path: &Path) -> Result<Roll, Failure> {
+    let bytes = bytes_in(path).map_err(|error| Failure::file(ROLL, path, error))?;
+    Roll::from_bytes(&bytes)
+        .ok_or_else(|| Failure::file(ROLL, path, format!("not {ROLL_BYTES} bytes long")))
+}
+
+/// Changes the roll in a file, unless the call refuses, and gives it as it is then.
+/// The lock is held from reading to writing, so that no other change gets lost.
+pub fn change(
+    path: &Path,
+    call: impl FnOnce(&mut Roll) -> Result<(), Reason>,
+) -> Result<Roll, Failure> {
+    let trouble = |error: io::Error| Failure::file(ROLL, path, error);
+    // The file itself, so that all who reach it by links take the same lock, and no
+    // link is replaced by a file.
+    let target = fs::canonicalize(path).map_err(trouble)?;
+    let _lock = Lock::take(&target).map_err(trouble)?;
+    let old = fs::metadata(&target).map_err(trouble)?;
+    if !old.is_file() {
+        return Err(Failure::file(ROLL, path, "not a regular file"));
+    }
+    let mut roll = read(&target)?;
+    call(&mut roll)?;
+    replace(&target, roll.bytes(), Some(&old)).map_err(trouble)?;
+    Ok(roll)
+}
+
+/// Makes a file with the roll on which nobody was ever entered. A file that exists is
+/// not replaced: if counts start anew, revoked grants open again.
+pub fn make(path: &Path) -> Result<(), Failure> {
+    let trouble = |error: io::Error| Failure::file(ROLL, path, error);
+    let target = new_target(path).map_err(trouble)?;
+    let _lock = Lock::take(&target).map_err(trouble)?;
+    // Links that lead nowhere count as files too.
+    if fs::symlink_metadata(&target).is_ok() {
+        return Err(Failure::file(ROLL, path, "exists, and is not replaced"));
+    }
+    replace(&target, Roll::empty().bytes(), None).map_err(trouble)
+}
+
+/// A file's bytes, and one more than a roll has at most.
+fn bytes_in(path: &Path) -> io::Result<Vec<u8>> {
+    let mut bytes = Vec::new();
+    File::open(path)?
+        .take(ROLL_BYTES as u64 + 1)
+        .read_to_end(&mut bytes)?;
+    Ok(bytes)
+}
+
+/// Where a file that does not exist will be: its directory does.
+fn new_target(path: &Path) -> io::Result<PathBuf> {
+    let name = path
+        .file_name()
+        .ok_or_else(|| io::Error::new(io::ErrorKind::InvalidInput, "not the name of a file"))?;
+    let directory = match path.parent() {
+        Some(directory) if directory != Path::new("") => directory,
+        _ => Path::new("."),
+    };
+    Ok(fs::canonicalize(directory)?.join(name))
+}

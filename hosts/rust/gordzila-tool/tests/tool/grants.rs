@@ -1,0 +1,105 @@
+//! `issue` and `check`.
+
+use crate::running::{on_roll, Room, KEY};
+
+/// Options of a grant to contractor 7.
+fn options(rest: &str) -> String {
+    format!("--key {KEY} --rounds 10 {rest}")
+}
+
+#[test]
+fn a_grant_lives_and_dies() {
+    let room = Room::new("life");
+    let roll = room.path("roll");
+    let asked = options("--block 300 --right overwriting");
+    on_roll("roll make", &roll, "").done();
+    on_roll("enter", &roll, "--contractor 7").done();
+    let issued = on_roll("issue", &roll, &format!("{asked} --contractor 7")).done();
+    let check = || on_roll("check", &roll, &format!("{asked} --grant {issued}"));
+    assert_eq!(check().done(), "opens: contractor 7, overwriting\n");
+
+    on_roll("withdraw", &roll, "--contractor 7").done();
+    assert_eq!(check().refused(), 20);
+    on_roll("enter", &roll, "--contractor 7").done();
+    assert_eq!(check().refused(), 23);
+
+    let again = on_roll("issue", &roll, &format!("{asked} --contractor 7")).done();
+    assert_ne!(again, issued);
+    let opens = on_roll("check", &roll, &format!("{asked} --grant {again}"));
+    assert_eq!(opens.done(), "opens: contractor 7, overwriting\n");
+}
+
+#[test]
+fn a_right_is_a_word_or_a_number() {
+    let room = Room::new("rights");
+    let roll = room.roll(&[(7, 1)]);
+    let issue = |right: &str| {
+        let rest = options(&format!("--block 0 --contractor 7 --right {right}"));
+        on_roll("issue", &roll, &rest).done()
+    };
+    assert_eq!(issue("reading"), issue("1"));
+    assert_eq!(issue("overwriting"), issue("2"));
+    let rest = options(&format!("--block 0 --right 1 --grant {}", issue("1")));
+    let opens = on_roll("check", &roll, &rest).done();
+    assert_eq!(opens, "opens: contractor 7, reading\n");
+}
+
+#[test]
+fn issuing_refuses_with_1_2_6_7_20() {
+    let room = Room::new("issue-refusals");
+    let roll = room.roll(&[(7, 1), (8, 2), (9, 65_535)]);
+    let number = |key: &str, rounds: u32, contractor: u32, right: &str| {
+        let rest = format!(
+            "--key {key} --rounds {rounds} --contractor {contractor} --block 1 --right {right}"
+        );
+        on_roll("issue", &roll, &rest).refused()
+    };
+    assert_eq!(number("00", 10, 7, "1"), 1);
+    assert_eq!(number(KEY, 12, 7, "1"), 2);
+    assert_eq!(number(KEY, 10, 0, "1"), 6);
+    assert_eq!(number(KEY, 10, 201, "1"), 6);
+    assert_eq!(number(KEY, 10, 65_543, "1"), 6);
+    assert_eq!(number(KEY, 10, 7, "0"), 7);
+    assert_eq!(number(KEY, 10, 7, "257"), 7);
+    assert_eq!(number(KEY, 10, 8, "1"), 20);
+    assert_eq!(number(KEY, 10, 9, "1"), 20);
+}
+
+#[test]
+fn checking_refuses_with_1_2_3_7_8_9_10_20_23() {
+    let room = Room::new("check-refusals");
+    let roll = room.roll(&[(7, 1)]);
+    let rest = options("--contractor 7 --block 300 --right 2");
+    let grant = on_roll("issue", &roll, &rest).done();
+    let number = |key: &str, rounds: u32, grant: &str, block: u32, right: u32| {
+        let rest = format!(
+            "--key {key} --rounds {rounds} --grant {grant} --block {block} --right {right}"
+        );
+        on_roll("check", &roll, &rest).refused()
+    };
+    assert_eq!(number("00", 10, &grant, 300, 2), 1);
+    assert_eq!(number(KEY, 18, &grant, 300, 2), 2);
+    assert_eq!(number(KEY, 10, "00", 300, 2), 3);
+    assert_eq!(number(KEY, 10, &format!("{}00", grant.trim()), 300, 2), 3);
+    assert_eq!(number(KEY, 10, &grant, 300, 3), 7);
+    assert_eq!(number(KEY, 11, &grant, 300, 2), 8);
+    assert_eq!(number(KEY, 10, &grant, 301, 2), 9);
+    assert_eq!(number(KEY, 10, &grant, 300, 1), 10);
+    room.roll(&[(7, 2)]);
+    assert_eq!(number(KEY, 10, &grant, 300, 2), 20);
+    room.roll(&[(7, 3)]);
+    assert_eq!(number(KEY, 10, &grant, 300, 2), 23);
+}
+
+#[test]
+fn a_check_leaves_the_roll_alone() {
+    let room = Room::new("check-reads");
+    let roll = room.roll(&[(7, 1)]);
+    let before = std::fs::read(&roll).unwrap();
+    let rest = options("--contractor 7 --block 300 --right 2");
+    let grant = on_roll("issue", &roll, &rest).done();
+    let rest = options(&format!("--block 300 --right 2 --grant {grant}"));
+    on_roll("check", &roll, &rest).done();
+    assert_eq!(std::fs::read(&roll).unwrap(), before);
+    assert_eq!(room.names(), ["roll"]);
+}

@@ -1,0 +1,140 @@
+//! The first lives in the stored output of the independent program, lived by the tool.
+//! reference/README.md says what the lines are.
+
+use crate::running::{on_roll, Room, Run};
+use std::fs;
+use std::path::{Path, PathBuf};
+
+/// How many lines a life has.
+const LINES: usize = 28;
+
+/// How many lives are lived: some of each key length. All of them would start the
+/// tool some thousand times; the wrapper's tests have them all.
+const LIVES: [usize; 6] = [0, 1, 2, 8, 24, 47];
+
+/// The key, rounds, contractor, size block and right of a life, and its roll.
+struct Life<'a> {
+    key: &'a str,
+    rounds: &'a str,
+    contractor: &'a str,
+    block: u32,
+    right: u32,
+    roll: PathBuf,
+}
+
+#[test]
+fn the_tool_answers_as_the_independent_program_does() {
+    let stored = Path::new(env!("CARGO_MANIFEST_DIR")).join("../../../crates/grant_life/stdout");
+    let text = fs::read_to_string(stored).unwrap();
+    let lines: Vec<&str> = text.lines().collect();
+    for number in LIVES {
+        let room = Room::new(&format!("stored-{number}"));
+        let lines = &lines[LINES * number..LINES * (number + 1)];
+        let life = Life::new(lines[0], room.path("roll"));
+        assert_eq!(life.lived(), lines[1..], "{}", lines[0]);
+    }
+}
+
+impl<'a> Life<'a> {
+    fn new(line: &'a str, roll: PathBuf) -> Life<'a> {
+        let fields: Vec<&str> = line.split(' ').collect();
+        on_roll("roll make", &roll, "").done();
+        Life {
+            key: fields[1],
+            rounds: fields[2],
+            contractor: fields[3],
+            block: fields[4].parse().unwrap(),
+            right: fields[5].parse().unwrap(),
+            roll,
+        }
+    }
+
+    /// The lines after the first.
+    fn lived(&self) -> Vec<String> {
+        let mut lines = vec![self.issue(), self.change("enter"), self.issue()];
+        let a = lines[2].replace("issue 0 ", "");
+        lines.push(self.check(&a));
+        lines.push(self.check_for(&a, self.block.wrapping_add(1), self.right));
+        lines.push(self.check_for(&a, self.block, 3 - self.right));
+        lines.extend([
+            self.change("enter"),
+            self.change("withdraw"),
+            self.check(&a),
+        ]);
+        lines.extend([
+            self.change("withdraw"),
+            self.change("enter"),
+            self.check(&a),
+        ]);
+        lines.push(self.issue());
+        let b = lines[12].replace("issue 0 ", "");
+        lines.extend([self.check(&b), self.check(&a)]);
+        for at in 0..12 {
+            let line = self.check(&damaged(&b, at));
+            lines.push(line.replace("check", &format!("damaged {at}")));
+        }
+        lines
+    }
+
+    fn change(&self, subcommand: &str) -> String {
+        let options = format!("--contractor {}", self.contractor);
+        let run = on_roll(subcommand, &self.roll, &options);
+        format!("{subcommand} {}", number(run))
+    }
+
+    fn issue(&self) -> String {
+        let contractor = self.contractor;
+        let options = format!(
+            "{} --contractor {contractor}",
+            self.asked(self.block, self.right)
+        );
+        let run = on_roll("issue", &self.roll, &options);
+        match run.status {
+            Some(0) => format!("issue 0 {}", run.done().trim_end()),
+            _ => format!("issue {}", run.refused()),
+        }
+    }
+
+    fn check(&self, grant: &str) -> String {
+        self.check_for(grant, self.block, self.right)
+    }
+
+    fn check_for(&self, grant: &str, block: u32, right: u32) -> String {
+        let options = format!("{} --grant {grant}", self.asked(block, right));
+        let run = on_roll("check", &self.roll, &options);
+        match run.status {
+            Some(0) => format!("check 0 {}", opened(&run.done())),
+            _ => format!("check {} 0 0", run.refused()),
+        }
+    }
+
+    fn asked(&self, block: u32, right: u32) -> String {
+        let (key, rounds) = (self.key, self.rounds);
+        format!("--key {key} --rounds {rounds} --block {block} --right {right}")
+    }
+}
+
+/// The contractor and the right that a check printed, as the stored lines have them.
+fn opened(printed: &str) -> String {
+    let rest = printed.strip_prefix("opens: contractor ").unwrap();
+    let (contractor, right) = rest.trim_end().split_once(", ").unwrap();
+    let right = match right {
+        "reading" => 1,
+        "overwriting" => 2,
+        _ => panic!("{printed}"),
+    };
+    format!("{contractor} {right}")
+}
+
+fn number(run: Run) -> u32 {
+    match run.status {
+        Some(0) => 0,
+        _ => run.refused(),
+    }
+}
+
+/// A grant with one byte xored with 1.
+fn damaged(grant: &str, at: usize) -> String {
+    let byte = u8::from_str_radix(&grant[2 * at..2 * at + 2], 16).unwrap() ^ 1;
+    format!("{}{byte:02x}{}", &grant[..2 * at], &grant[2 * at + 2..])
+}

@@ -1,0 +1,9 @@
+//! Tests of the tool as others use it: by its words, files, outputs and exit status.
+
+mod cipher;
+mod grants;
+mod lives;
+mod rolls;
+mod running;
+mod usage;
+mod writing;

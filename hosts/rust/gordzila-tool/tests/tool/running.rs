@@ -1,0 +1,125 @@
+//! What the tests share: running the tool, and a directory for each test.
+
+use std::ffi::OsStr;
+use std::fs;
+use std::path::{Path, PathBuf};
+use std::process::{self, Command, Output};
+
+pub const TOOL: &str = env!("CARGO_BIN_EXE_gordzila");
+
+/// A key of 12 bytes, for 10 or 11 rounds.
+pub const KEY: &str = "000102030405060708090a0b";
+
+/// What a run of the tool came to.
+#[derive(Debug, PartialEq, Eq)]
+pub struct Run {
+    pub status: Option<i32>,
+    pub out: String,
+    pub err: String,
+}
+
+impl From<Output> for Run {
+    fn from(output: Output) -> Run {
+        Run {
+            status: output.status.code(),
+            out: String::from_utf8(output.stdout).unwrap(),
+            err: String::from_utf8(output.stderr).unwrap(),
+        }
+    }
+}
+
+impl Run {
+    /// What it printed; it has to be done.
+    #[track_caller]
+    pub fn done(self) -> String {
+        assert_eq!((self.status, self.err.as_str()), (Some(0), ""), "{self:?}");
+        self.out
+    }
+
+    /// The number with which it was refused.
+    #[track_caller]
+    pub fn refused(self) -> u32 {
+        assert_eq!((self.status, self.out.as_str()), (Some(1), ""), "{self:?}");
+        let rest = self.err.strip_prefix("refused with ").unwrap();
+        let (number, words) = rest.trim_end().split_once(": ").unwrap();
+        let number = number.parse().unwrap();
+        let reason = gordzila::Reason::from_number(number).unwrap();
+        assert_eq!(words, reason.to_string());
+        number
+    }
+
+    /// Sees that it ended with status 2 and a message that has these words.
+    #[track_caller]
+    pub fn stopped(self, words: &str) {
+        assert_eq!((self.status, self.out.as_str()), (Some(2), ""), "{self:?}");
+        assert!(self.err.starts_with("gordzila: "), "{self:?}");
+        assert!(self.err.contains(words), "{words}: {self:?}");
+        assert_eq!(self.err.lines().count(), 1, "{self:?}");
+    }
+}
+
+/// Runs the tool with words.
+pub fn run<S: AsRef<OsStr>>(words: &[S]) -> Run {
+    Command::new(TOOL).args(words).output().unwrap().into()
+}
+
+/// Runs the tool with the words of a line.
+pub fn line(line: &str) -> Run {
+    run(&line.split_whitespace().collect::<Vec<_>>())
+}
+
+/// A new directory for one test, which goes with this.
+pub struct Room(PathBuf);
+
+impl Room {
+    pub fn new(name: &str) -> Room {
+        let path = Path::new(env!("CARGO_TARGET_TMPDIR")).join(format!("{name}-{}", process::id()));
+        fs::create_dir_all(&path).unwrap();
+        Room(path)
+    }
+
+    pub fn path(&self, name: &str) -> PathBuf {
+        self.0.join(name)
+    }
+
+    /// A file with these bytes.
+    pub fn file(&self, name: &str, bytes: &[u8]) -> PathBuf {
+        let path = self.path(name);
+        fs::write(&path, bytes).unwrap();
+        path
+    }
+
+    /// A file with a roll of these contractors and counts.
+    pub fn roll(&self, counts: &[(usize, u16)]) -> PathBuf {
+        let mut bytes = [0; 400];
+        for (contractor, count) in counts {
+            let at = 2 * (contractor - 1);
+            bytes[at..at + 2].copy_from_slice(&count.to_be_bytes());
+        }
+        self.file("roll", &bytes)
+    }
+
+    /// The names of the files in it, in order.
+    pub fn names(&self) -> Vec<String> {
+        let entries = fs::read_dir(&self.0).unwrap();
+        let mut names: Vec<String> = entries
+            .map(|entry| entry.unwrap().file_name().into_string().unwrap())
+            .collect();
+        names.sort();
+        names
+    }
+}
+
+impl Drop for Room {
+    fn drop(&mut self) {
+        let _ = fs::remove_dir_all(&self.0);
+    }
+}
+
+/// Runs a subcommand with `--roll` and other options.
+pub fn on_roll(subcommand: &str, roll: &Path, options: &str) -> Run {
+    let mut words: Vec<&OsStr> = subcommand.split(' ').map(OsStr::new).collect();
+    words.extend([OsStr::new("--roll"), roll.as_os_str()]);
+    words.extend(options.split_whitespace().map(OsStr::new));
+    run(&words)
+}

@@ -1,0 +1,241 @@
+//! Bad usage, help and the version.
+
+use crate::running::{line, run, Room, Run, KEY, TOOL};
+use std::ffi::OsStr;
+use std::fs::File;
+use std::os::unix::ffi::OsStrExt;
+use std::process::Command;
+
+/// Each subcommand with all its options, `ROLL` for the name of a roll.
+const COMPLETE: [&str; 9] = [
+    "issue --key KEY --rounds 10 --roll ROLL --contractor 7 --block 300 --right 2",
+    "check --key KEY --rounds 10 --roll ROLL --grant KEY --block 300 --right 2",
+    "encipher --key KEY --rounds 10 --block KEY",
+    "decipher --key KEY --rounds 10 --block KEY",
+    "stage --key KEY --stage 3",
+    "enter --roll ROLL --contractor 8",
+    "withdraw --roll ROLL --contractor 7",
+    "roll list --roll ROLL",
+    "roll make --roll ROLL2",
+];
+
+/// The words of a complete line, over a roll on which contractor 7 is in standing.
+fn words(complete: &str, room: &Room) -> Vec<String> {
+    let roll = room.roll(&[(7, 1)]).to_str().unwrap().to_string();
+    complete
+        .split(' ')
+        .map(|word| match word {
+            "KEY" => KEY.to_string(),
+            "ROLL" => roll.clone(),
+            "ROLL2" => format!("{roll}2"),
+            _ => word.to_string(),
+        })
+        .collect()
+}
+
+/// Where the first option of the words stands.
+fn first_option(words: &[String]) -> usize {
+    words
+        .iter()
+        .position(|word| word.starts_with("--"))
+        .unwrap()
+}
+
+#[test]
+fn complete_lines_are_done_or_refused() {
+    let room = Room::new("complete");
+    for complete in COMPLETE {
+        let run = run(&words(complete, &room));
+        match complete.starts_with("check") {
+            true => assert_eq!(run.refused(), 8),
+            false => assert!(!run.done().is_empty()),
+        }
+    }
+}
+
+#[test]
+fn every_option_is_needed() {
+    let room = Room::new("missing");
+    for complete in COMPLETE {
+        let words = words(complete, &room);
+        for at in (first_option(&words)..words.len()).step_by(2) {
+            let mut fewer = words.clone();
+            fewer.drain(at..at + 2);
+            let needed = words[at].replace("--key", "--key or --key-file");
+            run(&fewer).stopped(&format!("{needed} is missing"));
+        }
+    }
+}
+
+#[test]
+fn every_option_stands_once_with_a_value() {
+    let room = Room::new("repeated");
+    for complete in COMPLETE {
+        let words = words(complete, &room);
+        for at in (first_option(&words)..words.len()).step_by(2) {
+            let option = &words[at];
+            let mut more = words.clone();
+            more.extend_from_slice(&words[at..at + 2]);
+            run(&more).stopped(&format!("{option} is given twice"));
+            let mut valueless = words.clone();
+            valueless.remove(at + 1);
+            run(&valueless).stopped(&format!("{option} needs a value"));
+        }
+    }
+}
+
+#[test]
+fn options_stand_in_any_order() {
+    let room = Room::new("order");
+    let words = words(COMPLETE[0], &room);
+    let mut turned = words[..1].to_vec();
+    for pair in words[1..].chunks(2).rev() {
+        turned.extend_from_slice(pair);
+    }
+    assert_eq!(run(&turned), run(&words));
+}
+
+#[test]
+fn no_other_option_is_taken() {
+    let room = Room::new("unknown");
+    for complete in COMPLETE {
+        for (other, named) in [
+            ("--other 1", "`--other`"),
+            ("--Key 00", "`--Key`"),
+            ("-k 00", "`-k`"),
+            ("extra", "`extra`"),
+            ("--key=00112233", "`--key=`"),
+        ] {
+            let mut words = words(complete, &room);
+            words.extend(other.split(' ').map(str::to_string));
+            let run = run(&words);
+            assert!(!run.err.contains("00112233"), "{run:?}");
+            run.stopped(named);
+        }
+    }
+    line("enter --roll x --contractor 1 --key 00").stopped("`--key` is no option");
+    line("stage --rounds 10").stopped("`--rounds` is no option");
+}
+
+#[test]
+fn numbers_are_not_cut() {
+    let room = Room::new("numbers");
+    let options = ["--rounds", "--contractor", "--block", "--right", "--stage"];
+    for complete in COMPLETE {
+        let words = words(complete, &room);
+        // The block of a cipher call is no number.
+        let is_number = |at: &usize| options.contains(&&words[*at][..]) && words[at + 1] != KEY;
+        for at in (0..words.len()).filter(is_number) {
+            for wrong in [
+                "4294967296",
+                "4294967306",
+                "-1",
+                "+1",
+                "",
+                "1.0",
+                "0x1",
+                "1 ",
+            ] {
+                let mut words = words.clone();
+                words[at + 1] = wrong.to_string();
+                run(&words).stopped(&format!("{}: ", words[at]));
+            }
+        }
+    }
+}
+
+#[test]
+fn bytes_are_whole_hexadecimal_digits() {
+    let room = Room::new("digits");
+    for complete in COMPLETE {
+        let words = words(complete, &room);
+        for at in (0..words.len()).filter(|&at| words[at] == KEY) {
+            for wrong in ["0", "0g", "0x00", "00 11", "00-11", "\u{661}\u{661}"] {
+                let mut words = words.clone();
+                words[at] = wrong.to_string();
+                run(&words).stopped(&format!("{}: ", words[at - 1]));
+            }
+        }
+    }
+}
+
+#[test]
+fn a_key_comes_from_one_place() {
+    let both = format!("stage --stage 0 --key {KEY} --key-file x");
+    line(&both).stopped("--key and --key-file are given");
+}
+
+#[test]
+fn words_may_be_no_text() {
+    let broken = OsStr::from_bytes(b"\xff\xfe");
+    let key = OsStr::new(KEY);
+    let stage = |key: &OsStr, n: &OsStr| {
+        let words = ["stage", "--key", "", "--stage", ""].map(OsStr::new);
+        run(&[words[0], words[1], key, words[3], n])
+    };
+    stage(broken, OsStr::new("0")).stopped("--key: ");
+    stage(key, broken).stopped("--stage: ");
+    run(&[broken]).stopped("is no subcommand");
+    run(&[OsStr::new("stage"), broken]).stopped("is no option");
+}
+
+#[test]
+fn a_subcommand_is_needed() {
+    run::<&str>(&[]).stopped("a subcommand is missing");
+    line("open").stopped("`open` is no subcommand");
+    line("--key 00").stopped("`--key` is no subcommand");
+    line("roll").stopped("`make` or `list`");
+    line("roll mend --roll x").stopped("`mend`");
+    line("roll --roll x").stopped("`make` or `list`");
+}
+
+#[test]
+fn help_is_there_for_all() {
+    let tool = line("--help").done();
+    assert_eq!(line("help").done(), tool);
+    for name in [
+        "issue", "check", "encipher", "decipher", "stage", "enter", "withdraw", "roll",
+    ] {
+        let help = line(&format!("help {name}")).done();
+        assert!(help.contains(&format!("usage: gordzila {name} ")), "{help}");
+        assert!(tool.contains(&format!("\n  {name} ")), "{tool}");
+        for other in ["--help", "help", "--key 00 --help", "--other --help"] {
+            assert_eq!(line(&format!("{name} {other}")).done(), help);
+        }
+        assert!(help.lines().all(|line| line.len() <= 80), "{help}");
+    }
+    assert!(tool.lines().all(|line| line.len() <= 80), "{tool}");
+    line("help open").stopped("`open` is no subcommand");
+    line("help issue check").stopped("help takes one subcommand");
+}
+
+#[test]
+fn help_names_every_option() {
+    for complete in COMPLETE {
+        let mut words = complete.split(' ');
+        let help = line(&format!("help {}", words.next().unwrap())).done();
+        for option in words.filter(|word| word.starts_with("--")) {
+            assert!(help.contains(&format!("  {option} ")), "{option}: {help}");
+        }
+        assert_eq!(complete.contains("--key"), help.contains("--key-file FILE"));
+    }
+}
+
+#[test]
+fn the_version_is_told() {
+    let expected = format!("gordzila {}\n", env!("CARGO_PKG_VERSION"));
+    assert_eq!(line("--version").done(), expected);
+    line("--version now").stopped("--version stands alone");
+}
+
+#[test]
+fn output_that_gets_lost_is_told() {
+    let full = File::options().write(true).open("/dev/full").unwrap();
+    let run: Run = Command::new(TOOL)
+        .arg("--version")
+        .stdout(full)
+        .output()
+        .unwrap()
+        .into();
+    run.stopped("standard output: ");
+}

@@ -1,0 +1,155 @@
+//! How a roll's file is replaced: as a whole or not at all, by one process at a time.
+
+use crate::running::{on_roll, Room, Run, TOOL};
+use std::fs::{self, Permissions};
+use std::os::unix::fs::{symlink, MetadataExt, PermissionsExt};
+use std::path::Path;
+use std::process::Command;
+use std::thread;
+
+/// Enters contractor 1 from a shell that first runs other commands.
+fn enter_after(commands: &str, roll: &Path) -> Run {
+    Command::new("sh")
+        .args(["-c", &format!("{commands}; exec \"$@\""), "sh"])
+        .args([TOOL, "enter", "--contractor", "1", "--roll"])
+        .arg(roll)
+        .output()
+        .unwrap()
+        .into()
+}
+
+/// Whether files of this process belong to root, for whom no directory is read-only.
+fn is_root(path: &Path) -> bool {
+    fs::metadata(path).unwrap().uid() == 0
+}
+
+#[test]
+fn a_write_that_fails_leaves_the_old_file() {
+    let room = Room::new("full");
+    let roll = room.roll(&[(7, 1)]);
+    let before = fs::read(&roll).unwrap();
+    // No file may grow: the temporary file can be made, but not filled.
+    let run = enter_after("trap '' XFSZ; ulimit -f 0", &roll);
+    run.stopped(&format!("--roll: {}", roll.display()));
+    assert_eq!(fs::read(&roll).unwrap(), before);
+    assert_eq!(room.names(), ["roll"]);
+}
+
+#[test]
+fn a_read_only_directory_leaves_the_old_file() {
+    let room = Room::new("read-only");
+    let roll = room.roll(&[(7, 1)]);
+    if is_root(&roll) {
+        eprintln!("skipped: root may write everywhere");
+        return;
+    }
+    let before = fs::read(&roll).unwrap();
+    let directory = roll.parent().unwrap();
+    fs::set_permissions(directory, Permissions::from_mode(0o555)).unwrap();
+    let run = on_roll("enter", &roll, "--contractor 1");
+    let make = on_roll("roll make", &room.path("new"), "");
+    fs::set_permissions(directory, Permissions::from_mode(0o755)).unwrap();
+    run.stopped("Permission denied");
+    make.stopped("Permission denied");
+    assert_eq!(fs::read(&roll).unwrap(), before);
+    assert_eq!(room.names(), ["roll"]);
+}
+
+#[test]
+fn a_file_of_another_owner_is_left_alone() {
+    let room = Room::new("owner");
+    let roll = room.roll(&[]);
+    if !is_root(&roll) {
+        eprintln!("skipped: only root can give a file away");
+        return;
+    }
+    let given = Command::new("chown").arg("12345").arg(&roll).status();
+    assert!(given.unwrap().success());
+    on_roll("enter", &roll, "--contractor 1").stopped("belongs to user 12345");
+    assert_eq!(fs::read(&roll).unwrap(), [0; 400]);
+    assert_eq!(fs::metadata(&roll).unwrap().uid(), 12345);
+    assert_eq!(room.names(), ["roll"]);
+}
+
+#[test]
+fn the_permissions_stay() {
+    let room = Room::new("permissions");
+    let roll = room.roll(&[]);
+    for (mode, subcommand) in [(0o600, "enter"), (0o664, "withdraw"), (0o444, "enter")] {
+        fs::set_permissions(&roll, Permissions::from_mode(mode)).unwrap();
+        on_roll(subcommand, &roll, "--contractor 1").done();
+        let after = fs::metadata(&roll).unwrap().permissions().mode();
+        assert_eq!(after & 0o777, mode);
+    }
+}
+
+#[test]
+fn the_old_file_is_not_written_to() {
+    let room = Room::new("whole");
+    let roll = room.roll(&[]);
+    let second = room.path("second");
+    fs::hard_link(&roll, &second).unwrap();
+    on_roll("enter", &roll, "--contractor 1").done();
+    assert_eq!(fs::read(&second).unwrap(), [0; 400]);
+    assert_eq!(fs::read(&roll).unwrap()[1], 1);
+}
+
+#[test]
+fn a_link_stays_a_link() {
+    let room = Room::new("links");
+    let roll = room.roll(&[]);
+    let link = room.path("link");
+    symlink("roll", &link).unwrap();
+    on_roll("enter", &link, "--contractor 1").done();
+    assert!(fs::symlink_metadata(&link).unwrap().is_symlink());
+    assert_eq!(fs::read(&roll).unwrap()[1], 1);
+    // The lock is on the file, whatever name it is reached by.
+    room.file("roll.lock", b"");
+    on_roll("withdraw", &link, "--contractor 1").stopped("roll.lock exists");
+}
+
+#[test]
+fn a_lock_keeps_other_changes_off() {
+    let room = Room::new("lock");
+    let roll = room.roll(&[(2, 1)]);
+    let before = fs::read(&roll).unwrap();
+    let lock = room.file("roll.lock", b"");
+    on_roll("enter", &roll, "--contractor 1").stopped("roll.lock exists");
+    on_roll("withdraw", &roll, "--contractor 2").stopped("roll.lock exists");
+    assert_eq!(fs::read(&roll).unwrap(), before);
+    assert_eq!(room.names(), ["roll", "roll.lock"]);
+    // Reading goes on.
+    let listed = on_roll("roll list", &roll, "").done();
+    assert_eq!(listed, "contractor 2, count 1\n");
+    fs::remove_file(lock).unwrap();
+    on_roll("enter", &roll, "--contractor 1").done();
+}
+
+#[test]
+fn no_change_gets_lost() {
+    let room = Room::new("at-once");
+    let roll = room.roll(&[]);
+    thread::scope(|scope| {
+        for contractor in 1..=8 {
+            let roll = &roll;
+            scope.spawn(move || enter_at_last(roll, contractor));
+        }
+    });
+    let expected: String = (1..=8)
+        .map(|contractor| format!("contractor {contractor}, count 1\n"))
+        .collect();
+    assert_eq!(on_roll("roll list", &roll, "").done(), expected);
+    assert_eq!(room.names(), ["roll"]);
+}
+
+/// Enters a contractor, again and again while others hold the lock.
+fn enter_at_last(roll: &Path, contractor: u32) {
+    loop {
+        let run = on_roll("enter", roll, &format!("--contractor {contractor}"));
+        if run.status == Some(0) {
+            return;
+        }
+        run.stopped("roll.lock exists");
+        thread::yield_now();
+    }
+}

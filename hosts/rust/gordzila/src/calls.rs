@@ -1,0 +1,163 @@
+//! The calls with types that leave out what cannot be meant: blocks have 12 bytes,
+//! rolls 400, rights are two, and outputs are returned.
+
+use crate::{raw, Opened, Reason, Right, Roll};
+
+/// How many bytes a block, a grant and a subkey have.
+pub const BLOCK_BYTES: usize = 12;
+
+/// How many bytes a stage is given as, whatever the key's length.
+pub const STAGE_BYTES: usize = 24;
+
+/// How many bytes the longest subkey list has: 24 subkeys.
+const LONGEST_LIST: usize = 24 * BLOCK_BYTES;
+
+/// Enciphers one block. Refuses with [`Reason::KeyLength`] or [`Reason::RoundCount`].
+///
+/// ```
+/// let key = [0, 1, 2, 3, 4, 5, 6, 7, 8, 9, 10, 11];
+/// let block = *b"\x00\x11\x22\x33\x44\x55\x66\x77\x88\x99\xaa\xbb";
+/// let enciphered = gordzila::encipher(&key, 10, &block)?;
+/// assert_eq!(enciphered, *b"\x6e\xdf\x4c\x9c\xc8\x21\x9e\xc4\x03\xe5\x8e\xc8");
+/// assert_eq!(gordzila::decipher(&key, 10, &enciphered)?, block);
+/// # Ok::<(), gordzila::Reason>(())
+/// ```
+pub fn encipher(
+    key: &[u8],
+    rounds: u32,
+    block: &[u8; BLOCK_BYTES],
+) -> Result<[u8; BLOCK_BYTES], Reason> {
+    written(|out| raw::encipher(key, rounds, block, out))
+}
+
+/// Deciphers one block. Refuses with [`Reason::KeyLength`] or [`Reason::RoundCount`].
+pub fn decipher(
+    key: &[u8],
+    rounds: u32,
+    block: &[u8; BLOCK_BYTES],
+) -> Result<[u8; BLOCK_BYTES], Reason> {
+    written(|out| raw::decipher(key, rounds, block, out))
+}
+
+/// The subkey list for enciphering: 12 (`rounds` + 1) bytes, which [`run`] takes.
+/// Refuses with [`Reason::KeyLength`] or [`Reason::RoundCount`].
+///
+/// ```
+/// let (key, block) = ([3; 18], [5; 12]);
+/// let list = gordzila::prepare_enciphering(&key, 14)?;
+/// assert_eq!(list.len(), 12 * 15);
+/// assert_eq!(gordzila::run(&list, &block)?, gordzila::encipher(&key, 14, &block)?);
+/// # Ok::<(), gordzila::Reason>(())
+/// ```
+pub fn prepare_enciphering(key: &[u8], rounds: u32) -> Result<Vec<u8>, Reason> {
+    prepared(rounds, |out| raw::prepare_enciphering(key, rounds, out))
+}
+
+/// The subkey list for deciphering: 12 (`rounds` + 1) bytes, which [`run`] takes.
+/// Refuses with [`Reason::KeyLength`] or [`Reason::RoundCount`].
+pub fn prepare_deciphering(key: &[u8], rounds: u32) -> Result<Vec<u8>, Reason> {
+    prepared(rounds, |out| raw::prepare_deciphering(key, rounds, out))
+}
+
+/// Runs the engine over a list of 11 to 24 subkeys, whether a key gives it or not.
+/// Refuses with [`Reason::StageOrList`].
+pub fn run(list: &[u8], block: &[u8; BLOCK_BYTES]) -> Result<[u8; BLOCK_BYTES], Reason> {
+    written(|out| raw::run(list, block, out))
+}
+
+/// Issues a grant to a contractor in the standing that the roll has for them. Refuses
+/// with [`Reason::KeyLength`], [`Reason::RoundCount`], [`Reason::Contractor`] or
+/// [`Reason::NotInStanding`].
+///
+/// ```
+/// use gordzila::{Opened, Reason, Right, Roll};
+///
+/// let (key, rounds) = ([9; 12], 10);
+/// let mut roll = Roll::empty();
+/// roll.enter(7)?;
+/// let grant = gordzila::issue(&key, rounds, &roll, 7, 300, Right::Reading)?;
+///
+/// let opened = gordzila::check(&key, rounds, &roll, &grant, 300, Right::Reading)?;
+/// assert_eq!(opened, Opened { contractor: 7, right: Right::Reading });
+///
+/// roll.withdraw(7)?;
+/// let refused = gordzila::check(&key, rounds, &roll, &grant, 300, Right::Reading);
+/// assert_eq!(refused, Err(Reason::NotInStanding));
+/// # Ok::<(), Reason>(())
+/// ```
+pub fn issue(
+    key: &[u8],
+    rounds: u32,
+    roll: &Roll,
+    contractor: u32,
+    size_block: u32,
+    right: Right,
+) -> Result<[u8; BLOCK_BYTES], Reason> {
+    let (roll, right) = (roll.bytes(), right.number());
+    written(|out| raw::issue(key, rounds, roll, contractor, size_block, right, out))
+}
+
+/// Checks a grant for one size block and one right. The grant may have any length: it
+/// comes from outside. Refuses with [`Reason::KeyLength`], [`Reason::RoundCount`],
+/// [`Reason::InputLength`], [`Reason::NotAGrant`], [`Reason::OtherBlock`],
+/// [`Reason::OtherRight`], [`Reason::NotInStanding`] or [`Reason::OtherCount`].
+///
+/// An example stands with [`issue`].
+pub fn check(
+    key: &[u8],
+    rounds: u32,
+    roll: &Roll,
+    grant: &[u8],
+    size_block: u32,
+    right: Right,
+) -> Result<Opened, Reason> {
+    raw::check(key, rounds, roll.bytes(), grant, size_block, right.number())
+}
+
+/// A key's stage `n`, below the key's length: as many bytes as the key, then zeros.
+/// Refuses with [`Reason::KeyLength`] or [`Reason::StageOrList`].
+///
+/// ```
+/// use gordzila::Reason;
+///
+/// let key = [7; 12];
+/// let stage = gordzila::stage(&key, 0)?;
+/// assert_eq!((&stage[..12], &stage[12..]), (&key[..], &[0; 12][..]));
+/// assert_eq!(gordzila::stage(&key, 12), Err(Reason::StageOrList));
+/// # Ok::<(), Reason>(())
+/// ```
+pub fn stage(key: &[u8], n: u32) -> Result<[u8; STAGE_BYTES], Reason> {
+    written(|out| raw::stage(key, n, out))
+}
+
+/// The subkey of a key's stage `n`, below the key's length. Refuses with
+/// [`Reason::KeyLength`] or [`Reason::StageOrList`].
+///
+/// ```
+/// let key = [7; 24];
+/// let list = gordzila::prepare_enciphering(&key, 23)?;
+/// assert_eq!(gordzila::subkey(&key, 23)?, list[12 * 23..]);
+/// # Ok::<(), gordzila::Reason>(())
+/// ```
+pub fn subkey(key: &[u8], n: u32) -> Result<[u8; BLOCK_BYTES], Reason> {
+    written(|out| raw::subkey(key, n, out))
+}
+
+/// What a call writes, all of `LENGTH` bytes, if it does not refuse.
+fn written<const LENGTH: usize>(
+    call: impl FnOnce(&mut [u8]) -> Result<(), Reason>,
+) -> Result<[u8; LENGTH], Reason> {
+    let mut out = [0; LENGTH];
+    call(&mut out)?;
+    Ok(out)
+}
+
+/// The list that a call writes. Where it does not refuse, the rounds are at most 23,
+/// and the list has as many subkeys and one more.
+fn prepared(
+    rounds: u32,
+    call: impl FnOnce(&mut [u8]) -> Result<(), Reason>,
+) -> Result<Vec<u8>, Reason> {
+    let list = written::<LONGEST_LIST>(call)?;
+    Ok(list[..BLOCK_BYTES * (rounds as usize + 1)].to_vec())
+}

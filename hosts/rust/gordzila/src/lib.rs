@@ -1,0 +1,53 @@
+//! A safe wrapper over Gordzila, proved access control for a pattern store.
+//!
+//! What each call does is proved, for all inputs, from the source of the library; the
+//! repository's docs/CLAIMS.md says what is promised and what is not. This wrapper is
+//! ordinary Rust. It has no rule of its own: it hands slices to the C calls of
+//! include/gordzila.h and turns their numbers into types.
+//!
+//! A day in the life of a grant:
+//!
+//! ```
+//! use gordzila::{check, issue, Opened, Reason, Right, Roll};
+//!
+//! let (key, rounds, size_block) = (&[42; 24], 18, 300);
+//! let mut roll = Roll::empty();
+//! roll.enter(7)?;
+//! let grant = issue(key, rounds, &roll, 7, size_block, Right::Overwriting)?;
+//! assert_eq!(
+//!     check(key, rounds, &roll, &grant, size_block, Right::Overwriting),
+//!     Ok(Opened { contractor: 7, right: Right::Overwriting })
+//! );
+//!
+//! // The contractor is dropped and later taken on again: the old grant stays shut.
+//! roll.withdraw(7)?;
+//! roll.enter(7)?;
+//! assert_eq!(
+//!     check(key, rounds, &roll, &grant, size_block, Right::Overwriting),
+//!     Err(Reason::OtherCount)
+//! );
+//! # Ok::<(), Reason>(())
+//! ```
+//!
+//! The calls keep no state and may be made from any thread. Their time depends on the
+//! key and the data: they are not made to resist an observer of time.
+
+#![deny(unsafe_code)]
+#![warn(missing_docs, clippy::undocumented_unsafe_blocks)]
+
+mod calls;
+mod grants;
+pub mod raw;
+mod reason;
+mod roll;
+// The only file with unsafe code.
+#[allow(unsafe_code)]
+mod sys;
+
+pub use calls::{
+    check, decipher, encipher, issue, prepare_deciphering, prepare_enciphering, run, stage, subkey,
+    BLOCK_BYTES, STAGE_BYTES,
+};
+pub use grants::{Opened, Right};
+pub use reason::Reason;
+pub use roll::{Roll, CONTRACTORS, ROLL_BYTES};

@@ -1,0 +1,187 @@
+//! The C calls over any slices and any numbers.
+//!
+//! They are for those who have to reach every refusal. The calls at the top of the
+//! package take types that leave out some of them.
+//!
+//! Each call stands here twice: with a name that ends in `_number` it gives the number
+//! that the C call answers, without it a `Result`. Where a call refuses, it writes
+//! nothing. Where it does not, it writes the bytes that are said, from the start of
+//! `out`, and none after them. Of several reasons that hold, it gives the first in the
+//! order that stands with the call.
+//!
+//! ```
+//! use gordzila::{raw, Reason};
+//!
+//! let mut out = [0xee; 13];
+//! assert_eq!(raw::encipher(&[0; 12], 10, &[0; 12], &mut out[..11]), Err(Reason::OutputTooShort));
+//! assert_eq!(out, [0xee; 13]);
+//! assert_eq!(raw::encipher_number(&[0; 12], 10, &[0; 12], &mut out), 0);
+//! assert_eq!(out[12], 0xee);
+//! ```
+//!
+//! # Panics
+//!
+//! The calls that give a `Result` panic where the library answers a number that the
+//! header does not have. That takes an archive that does not belong to this package.
+
+pub use crate::sys::{
+    check_number, decipher_number, encipher_number, enter_number, issue_number,
+    prepare_deciphering_number, prepare_enciphering_number, run_number, stage_number,
+    subkey_number, withdraw_number,
+};
+use crate::{Opened, Reason, Right, CONTRACTORS};
+
+/// An answer from this number on says that a grant opens; it is this number times the
+/// right, plus the contractor.
+const OPENS: u32 = 1000;
+
+/// Checks a grant for one size block and one right. Order: 1, 2, 3 (grant or roll), 7,
+/// 8, 9, 10, 20, 23.
+pub fn check(
+    key: &[u8],
+    rounds: u32,
+    roll: &[u8],
+    grant: &[u8],
+    size_block: u32,
+    right: u32,
+) -> Result<Opened, Reason> {
+    opened(check_number(key, rounds, roll, grant, size_block, right))
+}
+
+/// Enters a contractor on the roll's 400 bytes. Order: 3, 6, 21, 22.
+pub fn enter(roll: &mut [u8], contractor: u32) -> Result<(), Reason> {
+    done(enter_number(roll, contractor))
+}
+
+/// Withdraws a contractor on the roll's 400 bytes. Order: 3, 6, 20.
+pub fn withdraw(roll: &mut [u8], contractor: u32) -> Result<(), Reason> {
+    done(withdraw_number(roll, contractor))
+}
+
+/// Issues a grant: 12 bytes to `out`. Order: 1, 2, 3 (roll), 4, 6, 7, 20.
+pub fn issue(
+    key: &[u8],
+    rounds: u32,
+    roll: &[u8],
+    contractor: u32,
+    size_block: u32,
+    right: u32,
+    out: &mut [u8],
+) -> Result<(), Reason> {
+    done(issue_number(
+        key, rounds, roll, contractor, size_block, right, out,
+    ))
+}
+
+/// Enciphers one block: 12 bytes to `out`. Order: 1, 2, 3, 4.
+pub fn encipher(key: &[u8], rounds: u32, block: &[u8], out: &mut [u8]) -> Result<(), Reason> {
+    done(encipher_number(key, rounds, block, out))
+}
+
+/// Deciphers one block: 12 bytes to `out`. Order: 1, 2, 3, 4.
+pub fn decipher(key: &[u8], rounds: u32, block: &[u8], out: &mut [u8]) -> Result<(), Reason> {
+    done(decipher_number(key, rounds, block, out))
+}
+
+/// Prepares the subkey list for enciphering: 12 (`rounds` + 1) bytes to `out`. Order:
+/// 1, 2, 4.
+pub fn prepare_enciphering(key: &[u8], rounds: u32, out: &mut [u8]) -> Result<(), Reason> {
+    done(prepare_enciphering_number(key, rounds, out))
+}
+
+/// Prepares the subkey list for deciphering: 12 (`rounds` + 1) bytes to `out`. Order:
+/// 1, 2, 4.
+pub fn prepare_deciphering(key: &[u8], rounds: u32, out: &mut [u8]) -> Result<(), Reason> {
+    done(prepare_deciphering_number(key, rounds, out))
+}
+
+/// Runs the engine over a subkey list, whether a key gives it or not: 12 bytes to
+/// `out`. Order: 5, 3, 4.
+pub fn run(list: &[u8], block: &[u8], out: &mut [u8]) -> Result<(), Reason> {
+    done(run_number(list, block, out))
+}
+
+/// A key's stage `n`: 24 bytes to `out`, with zeros past the key's length. Order: 1,
+/// 5, 4.
+pub fn stage(key: &[u8], n: u32, out: &mut [u8]) -> Result<(), Reason> {
+    done(stage_number(key, n, out))
+}
+
+/// The subkey of a key's stage `n`: 12 bytes to `out`. Order: 1, 5, 4.
+pub fn subkey(key: &[u8], n: u32, out: &mut [u8]) -> Result<(), Reason> {
+    done(subkey_number(key, n, out))
+}
+
+/// What a number says that is 0 or that of a reason.
+fn done(number: u32) -> Result<(), Reason> {
+    match number {
+        0 => Ok(()),
+        _ => Err(reason(number)),
+    }
+}
+
+/// What an answer of the check says.
+fn opened(answer: u32) -> Result<Opened, Reason> {
+    if answer < OPENS {
+        return Err(reason(answer));
+    }
+    let contractor = answer % OPENS;
+    match Right::from_number(answer / OPENS) {
+        Some(right) if (1..=CONTRACTORS).contains(&contractor) => Ok(Opened { contractor, right }),
+        _ => unknown(answer),
+    }
+}
+
+fn reason(number: u32) -> Reason {
+    Reason::from_number(number).unwrap_or_else(|| unknown(number))
+}
+
+/// Nobody may take a number for an opening grant that the header does not explain.
+fn unknown(number: u32) -> ! {
+    panic!("the library answered {number}, which the header does not have")
+}
+
+#[cfg(test)]
+mod tests {
+    use super::{done, opened};
+    use crate::{Opened, Reason, Right};
+
+    #[test]
+    fn zero_is_done_and_other_numbers_are_reasons() {
+        assert_eq!(done(0), Ok(()));
+        for reason in Reason::ALL {
+            assert_eq!(done(reason.number()), Err(reason));
+        }
+    }
+
+    #[test]
+    fn a_number_of_no_reason_is_not_taken_for_anything() {
+        for number in [11, 25, 1001] {
+            assert!(std::panic::catch_unwind(|| done(number)).is_err());
+        }
+    }
+
+    #[test]
+    fn answers_from_1001_and_2001_on_open() {
+        for contractor in [1, 7, 200] {
+            for right in [Right::Reading, Right::Overwriting] {
+                let answer = 1000 * right.number() + contractor;
+                assert_eq!(opened(answer), Ok(Opened { contractor, right }));
+            }
+        }
+    }
+
+    #[test]
+    fn answers_below_1000_refuse() {
+        for reason in Reason::ALL {
+            assert_eq!(opened(reason.number()), Err(reason));
+        }
+    }
+
+    #[test]
+    fn an_answer_that_the_header_does_not_have_opens_nothing() {
+        for answer in [0, 11, 999, 1000, 1201, 2000, 2201, 3001, u32::MAX] {
+            assert!(std::panic::catch_unwind(|| opened(answer)).is_err());
+        }
+    }
+}

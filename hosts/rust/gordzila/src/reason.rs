@@ -1,0 +1,161 @@
+//! The reasons for which a call refuses, with the numbers and the words of the
+//! header.
+
+use std::error::Error;
+use std::fmt;
+
+/// Why a call refused. A call that refuses changes nothing.
+///
+/// ```
+/// use gordzila::Reason;
+///
+/// let reason = gordzila::encipher(&[0; 11], 10, &[0; 12]).unwrap_err();
+/// assert_eq!(reason, Reason::KeyLength);
+/// assert_eq!(reason.number(), 1);
+/// assert_eq!(reason.to_string(), "key not 12, 18 or 24 bytes");
+/// ```
+#[derive(Clone, Copy, Debug, PartialEq, Eq)]
+pub enum Reason {
+    /// 1: key not 12, 18 or 24 bytes.
+    KeyLength = 1,
+    /// 2: round count not 10..11, 14..17 or 18..23, by the key's length.
+    RoundCount = 2,
+    /// 3: block or grant not 12 bytes; roll not 400 bytes.
+    InputLength = 3,
+    /// 4: out shorter than what is to be written. Only the calls of [`raw`](crate::raw)
+    /// can give it.
+    OutputTooShort = 4,
+    /// 5: stage number 6t or more; subkey list under 132 bytes, over 288, or no
+    /// multiple of 12.
+    StageOrList = 5,
+    /// 6: contractor outside 1 to 200.
+    Contractor = 6,
+    /// 7: right neither 1 nor 2. Only the calls of [`raw`](crate::raw) can give it.
+    Right = 7,
+    /// 8: the deciphered bytes have a wrong mark, contractor or right.
+    NotAGrant = 8,
+    /// 9: grant for another size block.
+    OtherBlock = 9,
+    /// 10: grant for another right.
+    OtherRight = 10,
+    /// 20: contractor not in standing.
+    NotInStanding = 20,
+    /// 21: entering someone in standing.
+    InStanding = 21,
+    /// 22: entering at count 65,534 or 65,535.
+    CountSpent = 22,
+    /// 23: the grant's count differs from the roll's.
+    OtherCount = 23,
+    /// 24: key holder with a wrong length, number or bytes past the key. No call that
+    /// stands in the header today gives it.
+    BrokenHolder = 24,
+}
+
+impl Reason {
+    /// Every reason, in the order of the numbers.
+    pub const ALL: [Reason; 15] = [
+        Reason::KeyLength,
+        Reason::RoundCount,
+        Reason::InputLength,
+        Reason::OutputTooShort,
+        Reason::StageOrList,
+        Reason::Contractor,
+        Reason::Right,
+        Reason::NotAGrant,
+        Reason::OtherBlock,
+        Reason::OtherRight,
+        Reason::NotInStanding,
+        Reason::InStanding,
+        Reason::CountSpent,
+        Reason::OtherCount,
+        Reason::BrokenHolder,
+    ];
+
+    /// The number of the reason.
+    pub fn number(self) -> u32 {
+        self as u32
+    }
+
+    /// The reason that has a number, if there is one.
+    ///
+    /// ```
+    /// use gordzila::Reason;
+    ///
+    /// assert_eq!(Reason::from_number(23), Some(Reason::OtherCount));
+    /// assert_eq!(Reason::from_number(0), None);
+    /// ```
+    pub fn from_number(number: u32) -> Option<Reason> {
+        Reason::ALL
+            .into_iter()
+            .find(|reason| reason.number() == number)
+    }
+
+    fn words(self) -> &'static str {
+        match self {
+            Reason::KeyLength => "key not 12, 18 or 24 bytes",
+            Reason::RoundCount => {
+                "round count not 10..11, 14..17 or 18..23, by the key's length"
+            }
+            Reason::InputLength => "block or grant not 12 bytes; roll not 400 bytes",
+            Reason::OutputTooShort => "out shorter than what is to be written",
+            Reason::StageOrList => {
+                "stage number 6t or more; subkey list under 132 bytes, over 288, or no multiple of 12"
+            }
+            Reason::Contractor => "contractor outside 1 to 200",
+            Reason::Right => "right neither 1 nor 2",
+            Reason::NotAGrant => "the deciphered bytes have a wrong mark, contractor or right",
+            Reason::OtherBlock => "grant for another size block",
+            Reason::OtherRight => "grant for another right",
+            Reason::NotInStanding => "contractor not in standing",
+            Reason::InStanding => "entering someone in standing",
+            Reason::CountSpent => "entering at count 65,534 or 65,535",
+            Reason::OtherCount => "the grant's count differs from the roll's",
+            Reason::BrokenHolder => {
+                "key holder with a wrong length, number or bytes past the key"
+            }
+        }
+    }
+}
+
+/// The reason in words, as in the header.
+impl fmt::Display for Reason {
+    fn fmt(&self, formatter: &mut fmt::Formatter<'_>) -> fmt::Result {
+        formatter.pad(self.words())
+    }
+}
+
+impl Error for Reason {}
+
+#[cfg(test)]
+mod tests {
+    use super::Reason;
+
+    #[test]
+    fn every_reason_is_found_by_its_number() {
+        for reason in Reason::ALL {
+            assert_eq!(Reason::from_number(reason.number()), Some(reason));
+        }
+    }
+
+    #[test]
+    fn the_numbers_are_1_to_10_and_20_to_24() {
+        let numbers: Vec<u32> = Reason::ALL.into_iter().map(Reason::number).collect();
+        let expected: Vec<u32> = (1..=10).chain(20..=24).collect();
+        assert_eq!(numbers, expected);
+    }
+
+    #[test]
+    fn no_other_number_is_a_reason() {
+        for number in [0, 11, 19, 25, 257, 1001, 2200, u32::MAX] {
+            assert_eq!(Reason::from_number(number), None, "{number}");
+        }
+    }
+
+    #[test]
+    fn a_reason_is_an_error_with_words() {
+        for reason in Reason::ALL {
+            let error: Box<dyn std::error::Error> = Box::new(reason);
+            assert!(!error.to_string().is_empty());
+        }
+    }
+}

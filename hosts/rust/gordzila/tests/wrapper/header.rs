@@ -1,0 +1,101 @@
+//! The header is what the wrapper has to agree with: a declaration that differs would
+//! be undefined behaviour, and no compiler would say so.
+
+use crate::repository_file;
+use gordzila::{Reason, Right, BLOCK_BYTES, ROLL_BYTES};
+
+const HEADER: &str = "include/gordzila.h";
+const DECLARATIONS: &str = "hosts/rust/gordzila/src/sys.rs";
+
+#[test]
+fn the_reasons_have_the_numbers_and_words_of_the_header() {
+    let header = repository_file(HEADER);
+    let mut found = 0;
+    for line in header.lines().filter(|line| line.ends_with("*/")) {
+        if let Some((number, words)) = numbered(line) {
+            let reason = Reason::from_number(number).unwrap();
+            assert_eq!(reason.to_string(), words);
+            found += 1;
+        }
+    }
+    assert_eq!(found, Reason::ALL.len());
+}
+
+/// The number and the comment of a line `NAME = NUMBER, /* words */`.
+fn numbered(line: &str) -> Option<(u32, &str)> {
+    let (_, rest) = line.split_once(" = ")?;
+    let (number, comment) = rest.split_once("/*")?;
+    let number = number.trim().trim_end_matches(',').parse().ok()?;
+    Some((number, comment.trim_end_matches("*/").trim()))
+}
+
+#[test]
+fn the_rights_and_lengths_are_those_of_the_header() {
+    let header = repository_file(HEADER);
+    let (reading, overwriting) = (Right::Reading.number(), Right::Overwriting.number());
+    for text in [
+        format!("GORDZILA_READING = {reading}, GORDZILA_OVERWRITING = {overwriting}"),
+        format!("GORDZILA_BLOCK_BYTES = {BLOCK_BYTES}, GORDZILA_GRANT_BYTES = {BLOCK_BYTES}"),
+        format!("GORDZILA_ROLL_BYTES = {ROLL_BYTES}"),
+    ] {
+        assert!(header.contains(&text), "{text}");
+    }
+}
+
+#[test]
+fn the_declarations_are_those_of_the_header() {
+    let header = in_c(&repository_file(HEADER));
+    let declared = in_rust(&repository_file(DECLARATIONS));
+    assert_eq!(header.len(), 11);
+    assert_eq!(declared, header);
+}
+
+/// Each function of the header as its name and its parameters, written as in Rust.
+fn in_c(text: &str) -> Vec<String> {
+    functions(text, "\nuint32_t gordzila_", ");")
+        .map(|(name, list)| signature(name, list.split(',').map(parameter_in_c)))
+        .collect()
+}
+
+/// `const uint8_t *key` as `key: *const u8`, and so on.
+fn parameter_in_c(parameter: &str) -> String {
+    let parameter = parameter.split_whitespace().collect::<Vec<_>>().join(" ");
+    for (c, rust) in [
+        ("const uint8_t *", "*const u8"),
+        ("uint8_t *", "*mut u8"),
+        ("size_t ", "usize"),
+        ("uint32_t ", "u32"),
+    ] {
+        if let Some(name) = parameter.strip_prefix(c) {
+            return format!("{name}: {rust}");
+        }
+    }
+    panic!("a parameter that the test does not know: {parameter}")
+}
+
+/// Each declared function as its name and its parameters.
+fn in_rust(text: &str) -> Vec<String> {
+    functions(text, "\n    fn gordzila_", ") -> u32;")
+        .map(|(name, list)| {
+            let parameters = list.split(',').map(|one| one.trim().to_string());
+            signature(name, parameters.filter(|one| !one.is_empty()))
+        })
+        .collect()
+}
+
+/// The names and parameter lists of functions, by what stands before and after them.
+fn functions<'a>(
+    text: &'a str,
+    before: &'a str,
+    after: &'a str,
+) -> impl Iterator<Item = (&'a str, &'a str)> {
+    text.split(before).skip(1).map(move |rest| {
+        let (name, rest) = rest.split_once('(').unwrap();
+        let (list, _) = rest.split_once(after).unwrap();
+        (name, list)
+    })
+}
+
+fn signature(name: &str, parameters: impl Iterator<Item = String>) -> String {
+    format!("{name}({})", parameters.collect::<Vec<_>>().join(", "))
+}
