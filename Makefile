@@ -4,7 +4,7 @@
 # make library    prove and build the static library
 # make install    header, library and pkg-config file to PREFIX (/usr/local), after make library
 # make hosts  the static library and the programs over it, built and run
-# make bench  times, side by side with plain C and the independent program; no test
+# make bench  times, side by side with plain C, the independent program and other ciphers; no test
 
 .PHONY: run library install test vectors reference hosts bench
 
@@ -36,7 +36,7 @@ vectors:
 hosts:
 	tools/hosts
 
-# The proved library beside plain C and the independent program, in one run.
+# The proved library beside plain C, the independent program and other ciphers, in one run.
 bench:
 	rt staticlib capi
 	cd bench && cargo run --release --offline
