@@ -1,0 +1,77 @@
+//! The calls of the library's archive, through the Rust wrapper's calls over any slices and numbers:
+//! so the wrapper is compared with the independent program too.
+
+use std::slice;
+
+use gordzila::raw;
+
+use crate::call::Call;
+use crate::lend::{Bytes, Lent};
+
+/// Makes a call of the archive.
+///
+/// Whoever makes a `Lent` answers for its pointers: each has as many bytes as its length says, and
+/// what the call writes to overlaps nothing else.
+pub fn archive(call: Call, lent: &Lent) -> u32 {
+    let (key, list, block) = (read(lent.key), read(lent.list), read(lent.block));
+    match call {
+        Call::Encipher => raw::encipher_number(key, lent.rounds, block, write(lent.out)),
+        Call::Decipher => raw::decipher_number(key, lent.rounds, block, write(lent.out)),
+        Call::PrepareEnciphering => {
+            raw::prepare_enciphering_number(key, lent.rounds, write(lent.out))
+        }
+        Call::PrepareDeciphering => {
+            raw::prepare_deciphering_number(key, lent.rounds, write(lent.out))
+        }
+        Call::Run => raw::run_number(list, block, write(lent.out)),
+        Call::Issue => issue(key, lent),
+        Call::Check => check(key, block, lent),
+        Call::Enter => raw::enter_number(write(lent.roll), lent.contractor),
+        Call::Withdraw => raw::withdraw_number(write(lent.roll), lent.contractor),
+        Call::Stage => raw::stage_number(key, lent.stage, write(lent.out)),
+        Call::Subkey => raw::subkey_number(key, lent.stage, write(lent.out)),
+    }
+}
+
+fn issue(key: &[u8], lent: &Lent) -> u32 {
+    raw::issue_number(
+        key,
+        lent.rounds,
+        read(lent.roll),
+        lent.contractor,
+        lent.size_block,
+        lent.right,
+        write(lent.out),
+    )
+}
+
+fn check(key: &[u8], grant: &[u8], lent: &Lent) -> u32 {
+    raw::check_number(
+        key,
+        lent.rounds,
+        read(lent.roll),
+        grant,
+        lent.size_block,
+        lent.right,
+    )
+}
+
+/// Bytes that the call only reads.
+fn read<'a>(bytes: Bytes) -> &'a [u8] {
+    if bytes.length == 0 {
+        return &[];
+    }
+    // SAFETY: whoever made the `Lent` answers for pointer and length; nothing writes to these bytes
+    // during the call.
+    unsafe { slice::from_raw_parts(bytes.start, bytes.length) }
+}
+
+/// Bytes that the call may write to.
+fn write<'a>(bytes: Bytes) -> &'a mut [u8] {
+    if bytes.length == 0 {
+        return &mut [];
+    }
+    // SAFETY: whoever made the `Lent` answers for pointer and length, and that these bytes overlap
+    // nothing else that is lent.
+    unsafe { slice::from_raw_parts_mut(bytes.start, bytes.length) }
+}

@@ -1,0 +1,84 @@
+//! A case: a call with everything that it is given.
+
+use std::fmt;
+
+use crate::call::{Argument, Call};
+
+/// A call and what it is given. What the call does not take is empty or 0.
+#[derive(Clone, Debug, PartialEq, Eq)]
+pub struct Case {
+    pub call: Call,
+    pub key: Vec<u8>,
+    pub rounds: u32,
+    /// The number of a key stage.
+    pub stage: u32,
+    pub roll: Vec<u8>,
+    /// A subkey list.
+    pub list: Vec<u8>,
+    /// A block, or a grant.
+    pub block: Vec<u8>,
+    pub contractor: u32,
+    pub size_block: u32,
+    pub right: u32,
+    /// How many bytes are lent to be written to.
+    pub out: usize,
+    /// Whether the block is lent from within the key's own bytes. Then the key begins with the
+    /// block.
+    pub shared: bool,
+}
+
+impl Case {
+    /// A case that gives nothing yet.
+    pub fn new(call: Call) -> Self {
+        Case {
+            call,
+            key: Vec::new(),
+            rounds: 0,
+            stage: 0,
+            roll: Vec::new(),
+            list: Vec::new(),
+            block: Vec::new(),
+            contractor: 0,
+            size_block: 0,
+            right: 0,
+            out: 0,
+            shared: false,
+        }
+    }
+
+    /// What the case gives for an argument, as text.
+    fn given(&self, argument: Argument) -> String {
+        match argument {
+            Argument::Key => format!("key={}", hex(&self.key)),
+            Argument::Rounds => format!("rounds={}", self.rounds),
+            Argument::Stage => format!("stage={}", self.stage),
+            Argument::Roll => format!("roll={}", hex(&self.roll)),
+            Argument::List => format!("list={}", hex(&self.list)),
+            Argument::Block => format!("block={}", hex(&self.block)),
+            Argument::Grant => format!("grant={}", hex(&self.block)),
+            Argument::Contractor => format!("contractor={}", self.contractor),
+            Argument::SizeBlock => format!("size_block={}", self.size_block),
+            Argument::Right => format!("right={}", self.right),
+            Argument::Out => format!("out_length={}", self.out),
+        }
+    }
+}
+
+impl fmt::Display for Case {
+    fn fmt(&self, out: &mut fmt::Formatter<'_>) -> fmt::Result {
+        out.write_str(self.call.name())?;
+        for &argument in self.call.arguments() {
+            write!(out, " {}", self.given(argument))?;
+        }
+        if self.shared {
+            out.write_str(" (the block is lent from the key's bytes)")?;
+        }
+        Ok(())
+    }
+}
+
+/// Bytes in hex, with their number before them.
+pub fn hex(bytes: &[u8]) -> String {
+    let digits: String = bytes.iter().map(|byte| format!("{byte:02x}")).collect();
+    format!("{}:{digits}", bytes.len())
+}

@@ -1,0 +1,169 @@
+//! Draws cases from a family: one that is right, or nearly so, and then spoilt in some arguments.
+
+use crate::call::Call;
+use crate::case::Case;
+use crate::expect::{needed, BLOCK_BYTES};
+use crate::family::{self, Family, Held};
+use crate::oracle::{Oracle, Way};
+use crate::random::Random;
+use crate::rolls::set_count;
+use crate::spoil::spoil;
+
+/// How often each call is drawn.
+const WEIGHTS: [(Call, usize); 11] = [
+    (Call::Encipher, 10),
+    (Call::Decipher, 10),
+    (Call::PrepareEnciphering, 7),
+    (Call::PrepareDeciphering, 7),
+    (Call::Run, 12),
+    (Call::Issue, 14),
+    (Call::Check, 24),
+    (Call::Enter, 10),
+    (Call::Withdraw, 8),
+    (Call::Stage, 7),
+    (Call::Subkey, 7),
+];
+
+/// Draws a case.
+pub fn draw(family: &Family, oracle: &mut Oracle, random: &mut Random) -> Case {
+    let call = some_call(random);
+    let mut case = right_case(call, family, oracle, random);
+    for _ in 0..random.pick(&[0, 0, 0, 0, 0, 1, 1, 1, 2, 3]) {
+        let argument = random.pick(call.arguments());
+        spoil(&mut case, argument, random);
+    }
+    case.shared = case.shared && case.key.starts_with(&case.block);
+    case
+}
+
+fn some_call(random: &mut Random) -> Call {
+    let total = WEIGHTS.iter().map(|pair| pair.1).sum();
+    let mut left = random.below(total);
+    for (call, weight) in WEIGHTS {
+        if left < weight {
+            return call;
+        }
+        left -= weight;
+    }
+    unreachable!("the weights add up to their sum")
+}
+
+/// A case in which no argument is wrong by itself. The roll may still have its reasons.
+fn right_case(call: Call, family: &Family, oracle: &mut Oracle, random: &mut Random) -> Case {
+    let mut case = Case::new(call);
+    match call {
+        Call::Encipher | Call::Decipher => {
+            with_key(&mut case, family, random);
+            with_block(&mut case, family, random);
+        }
+        Call::PrepareEnciphering | Call::PrepareDeciphering => with_key(&mut case, family, random),
+        Call::Run => with_list(&mut case, family, oracle, random),
+        Call::Issue => with_request(&mut case, family, random),
+        Call::Check => with_grant(&mut case, family, random),
+        Call::Enter | Call::Withdraw => with_roll(&mut case, family, random),
+        Call::Stage | Call::Subkey => {
+            case.key = family.key.clone();
+            case.stage = random.below(case.key.len()) as u32;
+        }
+    }
+    if needed(&case) > 0 {
+        case.out = needed(&case) as usize + some_rest(random);
+    }
+    case
+}
+
+/// The bytes that an output has more than it needs: none, a few, or so many that a byte cannot hold
+/// their number.
+fn some_rest(random: &mut Random) -> usize {
+    match random.below(8) {
+        0 => 1,
+        1 => random.below(40),
+        2 => 244 + random.below(40),
+        _ => 0,
+    }
+}
+
+/// The key of the family, mostly with its round count.
+fn with_key(case: &mut Case, family: &Family, random: &mut Random) {
+    case.key = family.key.clone();
+    case.rounds = family.rounds;
+    if random.once_in(16) {
+        case.rounds = family::right_rounds(case.key.len(), random);
+    }
+}
+
+/// A block of the family, a new one, or the first bytes of the key in their own place.
+fn with_block(case: &mut Case, family: &Family, random: &mut Random) {
+    let new_once_in = if case.call == Call::Decipher { 6 } else { 2 };
+    if random.once_in(20) {
+        case.block = case.key[..BLOCK_BYTES].to_vec();
+        case.shared = true;
+    } else if random.once_in(new_once_in) {
+        case.block = family::bytes(BLOCK_BYTES, random);
+    } else {
+        case.block = random.pick(&family.blocks);
+    }
+}
+
+/// Any list, or one of the key's two, and a block.
+fn with_list(case: &mut Case, family: &Family, oracle: &mut Oracle, random: &mut Random) {
+    case.list = match random.below(8) {
+        0 => oracle.list(Way::Encipher, &family.key, family.rounds),
+        1 => oracle.list(Way::Decipher, &family.key, family.rounds),
+        _ => family::bytes(12 * (11 + random.below(14)), random),
+    };
+    with_block_of(case, family, random);
+}
+
+fn with_block_of(case: &mut Case, family: &Family, random: &mut Random) {
+    case.block = match random.below(2) {
+        0 => random.pick(&family.blocks),
+        _ => family::bytes(BLOCK_BYTES, random),
+    };
+}
+
+/// A roll and a contractor, often with a count near an end.
+fn with_roll(case: &mut Case, family: &Family, random: &mut Random) {
+    case.roll = random.pick(&family.rolls);
+    case.contractor = family::some_contractor(random);
+    if random.once_in(2) {
+        set_count(&mut case.roll, case.contractor, family::some_count(random));
+    }
+}
+
+/// What an issue is asked for, mostly by someone in standing.
+fn with_request(case: &mut Case, family: &Family, random: &mut Random) {
+    with_key(case, family, random);
+    with_roll(case, family, random);
+    if !random.once_in(4) {
+        let count = family::standing_count(random);
+        set_count(&mut case.roll, case.contractor, count);
+    }
+    case.size_block = family::some_size_block(random);
+    case.right = random.pick(&[1, 2]);
+}
+
+/// A grant, as issued or tampered with, and the roll of its issue, or another.
+fn with_grant(case: &mut Case, family: &Family, random: &mut Random) {
+    let held = &family.held[random.below(family.held.len())];
+    with_key(case, family, random);
+    case.size_block = held.size_block;
+    case.right = held.right;
+    case.block = match random.below(2) {
+        0 => random.pick(&held.tampered),
+        _ => held.grant.clone(),
+    };
+    case.roll = some_roll(held, family, random);
+}
+
+/// The roll of a grant's issue, that roll after changes, or one of the family.
+fn some_roll(held: &Held, family: &Family, random: &mut Random) -> Vec<u8> {
+    let few = 1 + random.below(6);
+    match random.below(16) {
+        0..=3 => family::changed(&held.roll, held.contractor, few),
+        4 => family::changed(&held.roll, held.contractor, random.below(2000)),
+        5 | 6 => family::changed(&held.roll, family::some_contractor(random), few),
+        7 => random.pick(&family.rolls),
+        _ => held.roll.clone(),
+    }
+}

@@ -1,0 +1,206 @@
+//! What a call has to answer and to write, worked out from the header's words without the library.
+
+use std::ops::RangeInclusive;
+
+use curupira_reference::roll::Grant;
+
+use crate::call::Call;
+use crate::case::Case;
+use crate::oracle::{Oracle, Way};
+use crate::rolls::{self, count, in_standing, is_contractor, ROLL_BYTES};
+
+/// The bytes of a block, and of a grant.
+pub const BLOCK_BYTES: usize = 12;
+
+/// The bytes of a stage.
+pub const STAGE_BYTES: usize = 24;
+
+/// The lengths of a subkey list.
+const LIST_LENGTHS: RangeInclusive<usize> = 132..=288;
+
+/// The least count at which nobody is entered.
+const SPENT: u16 = 65_534;
+
+/// What a call does.
+#[derive(Clone, Debug, PartialEq, Eq)]
+pub struct Effect {
+    pub answer: u32,
+    /// What it writes to the output, from the start.
+    pub written: Vec<u8>,
+    /// The roll after the call.
+    pub roll: Vec<u8>,
+}
+
+/// What a call has to do, and all reasons for which it has to refuse, in their order.
+#[derive(Clone, Debug, PartialEq, Eq)]
+pub struct Expected {
+    pub effect: Effect,
+    pub reasons: Vec<u32>,
+}
+
+/// What the call of a case has to do.
+pub fn expected(case: &Case, oracle: &mut Oracle) -> Expected {
+    let reasons = reasons(case, oracle);
+    let effect = match reasons.first() {
+        Some(&reason) => refusal(case, reason),
+        None => success(case, oracle),
+    };
+    Expected { effect, reasons }
+}
+
+/// A refusal writes nothing.
+fn refusal(case: &Case, answer: u32) -> Effect {
+    Effect {
+        answer,
+        written: Vec::new(),
+        roll: case.roll.clone(),
+    }
+}
+
+/// The allowed round counts of a key length.
+pub fn allowed_rounds(key_length: usize) -> Option<RangeInclusive<u32>> {
+    match key_length {
+        12 => Some(10..=11),
+        18 => Some(14..=17),
+        24 => Some(18..=23),
+        _ => None,
+    }
+}
+
+/// The bytes that a call writes to its output where it does not refuse.
+pub fn needed(case: &Case) -> u64 {
+    match case.call {
+        Call::PrepareEnciphering | Call::PrepareDeciphering => 12 * (u64::from(case.rounds) + 1),
+        Call::Stage => STAGE_BYTES as u64,
+        Call::Check | Call::Enter | Call::Withdraw => 0,
+        _ => BLOCK_BYTES as u64,
+    }
+}
+
+/// All reasons that hold, in the order of the call. Left out is what has no meaning because of an
+/// earlier reason.
+fn reasons(case: &Case, oracle: &mut Oracle) -> Vec<u32> {
+    let table = |order: &[u32]| -> Vec<u32> {
+        let holding = order.iter().filter(|&&reason| holds(case, reason));
+        holding.copied().collect()
+    };
+    match case.call {
+        Call::Encipher | Call::Decipher => table(&[1, 2, 3, 4]),
+        Call::PrepareEnciphering | Call::PrepareDeciphering => table(&[1, 2, 4]),
+        Call::Run => table(&[5, 3, 4]),
+        Call::Issue => table(&[1, 2, 3, 4, 6, 7, 20]),
+        Call::Check => check_reasons(table(&[1, 2, 3, 7]), case, oracle),
+        Call::Enter => table(&[3, 6, 21, 22]),
+        Call::Withdraw => table(&[3, 6, 20]),
+        Call::Stage | Call::Subkey => table(&[1, 5, 4]),
+    }
+}
+
+/// Whether a reason holds that can be seen without deciphering.
+fn holds(case: &Case, reason: u32) -> bool {
+    match reason {
+        1 => allowed_rounds(case.key.len()).is_none(),
+        2 => allowed_rounds(case.key.len()).is_some_and(|range| !range.contains(&case.rounds)),
+        3 => wrong_input(case),
+        4 => (case.out as u64) < needed(case),
+        5 if case.call == Call::Run => wrong_list(case.list.len()),
+        5 => allowed_rounds(case.key.len()).is_some() && case.stage as usize >= case.key.len(),
+        6 => !is_contractor(case.contractor),
+        7 => case.right != 1 && case.right != 2,
+        20 => own_count(case).is_some_and(|count| !in_standing(count)),
+        21 => own_count(case).is_some_and(in_standing),
+        22 => own_count(case).is_some_and(|count| count >= SPENT),
+        other => panic!("reason {other} is not seen without deciphering"),
+    }
+}
+
+/// Whether the block, the grant or the roll has a wrong length.
+fn wrong_input(case: &Case) -> bool {
+    let wrong_block = case.block.len() != BLOCK_BYTES;
+    let wrong_roll = case.roll.len() != ROLL_BYTES;
+    match case.call {
+        Call::Check => wrong_block || wrong_roll,
+        Call::Issue | Call::Enter | Call::Withdraw => wrong_roll,
+        _ => wrong_block,
+    }
+}
+
+fn wrong_list(length: usize) -> bool {
+    !LIST_LENGTHS.contains(&length) || length % 12 != 0
+}
+
+/// The count of the contractor that the case names, if there is one.
+fn own_count(case: &Case) -> Option<u16> {
+    let present = case.roll.len() == ROLL_BYTES && is_contractor(case.contractor);
+    present.then(|| count(&case.roll, case.contractor))
+}
+
+/// The reasons of a check, given those that are seen without deciphering.
+fn check_reasons(mut reasons: Vec<u32>, case: &Case, oracle: &mut Oracle) -> Vec<u32> {
+    if reasons.iter().any(|reason| [1, 2, 3].contains(reason)) {
+        return reasons;
+    }
+    let Some(grant) = opened(case, oracle) else {
+        reasons.push(8);
+        return reasons;
+    };
+    let count = count(&case.roll, u32::from(grant.contractor));
+    let grant_reasons = [
+        (9, grant.block != case.size_block),
+        (10, u32::from(grant.right) != case.right),
+        (20, !in_standing(count)),
+        (23, grant.count != count),
+    ];
+    reasons.extend(
+        grant_reasons
+            .iter()
+            .filter(|pair| pair.1)
+            .map(|pair| pair.0),
+    );
+    reasons
+}
+
+/// The grant of a case deciphered, if it is one.
+fn opened(case: &Case, oracle: &mut Oracle) -> Option<Grant> {
+    let plain = oracle.block(Way::Decipher, &case.key, case.rounds, &case.block);
+    Grant::from_plain_bytes(&plain).ok()
+}
+
+/// What the call of a case does where no reason holds.
+fn success(case: &Case, oracle: &mut Oracle) -> Effect {
+    let mut effect = refusal(case, 0);
+    let (key, rounds) = (&case.key, case.rounds);
+    match case.call {
+        Call::Encipher => effect.written = oracle.block(Way::Encipher, key, rounds, &case.block),
+        Call::Decipher => effect.written = oracle.block(Way::Decipher, key, rounds, &case.block),
+        Call::PrepareEnciphering => effect.written = oracle.list(Way::Encipher, key, rounds),
+        Call::PrepareDeciphering => effect.written = oracle.list(Way::Decipher, key, rounds),
+        Call::Run => effect.written = Oracle::run(&case.list, &case.block),
+        Call::Issue => effect.written = oracle.block(Way::Encipher, key, rounds, &plain(case)),
+        Call::Check => effect.answer = opening(case, oracle),
+        Call::Enter | Call::Withdraw => {
+            let next = count(&case.roll, case.contractor) + 1;
+            rolls::set_count(&mut effect.roll, case.contractor, next);
+        }
+        Call::Stage => effect.written = Oracle::stage(key, case.stage),
+        Call::Subkey => effect.written = oracle.subkey(key, case.stage),
+    }
+    effect
+}
+
+/// The plain bytes of the grant that an issue gives.
+fn plain(case: &Case) -> Vec<u8> {
+    let grant = Grant {
+        contractor: case.contractor as u16,
+        count: count(&case.roll, case.contractor),
+        block: case.size_block,
+        right: case.right as u8,
+    };
+    grant.plain_bytes()
+}
+
+/// The answer to a grant that opens.
+fn opening(case: &Case, oracle: &mut Oracle) -> u32 {
+    let grant = opened(case, oracle).expect("a grant that opens is a grant");
+    1000 * case.right + u32::from(grant.contractor)
+}

@@ -1,0 +1,204 @@
+//! A family: a key and things around it, from which cases are drawn. What is slow to compute is
+//! shared by the cases of a family.
+
+use curupira_reference::roll::Grant;
+
+use crate::expect::{allowed_rounds, BLOCK_BYTES};
+use crate::oracle::{Oracle, Way};
+use crate::random::Random;
+use crate::rolls::{self, count, model, set_count, ROLL_BYTES};
+
+const BLOCKS: usize = 3;
+const ROLLS: usize = 3;
+const HELD: usize = 2;
+
+/// For each grant, so many others that were tampered with.
+const TAMPERED: usize = 5;
+
+/// The calls in the life of a roll.
+const LIFE: usize = 200;
+
+/// A key and things around it.
+pub struct Family {
+    pub key: Vec<u8>,
+    pub rounds: u32,
+    pub blocks: Vec<Vec<u8>>,
+    pub rolls: Vec<Vec<u8>>,
+    pub held: Vec<Held>,
+}
+
+/// A grant, the roll with which it opens, and what was made of the grant.
+pub struct Held {
+    pub roll: Vec<u8>,
+    pub contractor: u32,
+    pub size_block: u32,
+    pub right: u32,
+    pub grant: Vec<u8>,
+    pub tampered: Vec<Vec<u8>>,
+}
+
+impl Family {
+    /// Draws a family.
+    pub fn new(oracle: &mut Oracle, random: &mut Random) -> Self {
+        let key_length = random.pick(&[12, 18, 24]);
+        let mut family = Family {
+            key: bytes(key_length, random),
+            rounds: right_rounds(key_length, random),
+            blocks: (0..BLOCKS).map(|_| bytes(BLOCK_BYTES, random)).collect(),
+            rolls: (0..ROLLS).map(|_| roll(random)).collect(),
+            held: Vec::new(),
+        };
+        family.held = (0..HELD).map(|_| family.hold(oracle, random)).collect();
+        family
+    }
+
+    /// A grant from one of the rolls, after its contractor was brought into standing there.
+    fn hold(&self, oracle: &mut Oracle, random: &mut Random) -> Held {
+        let mut roll = random.pick(&self.rolls);
+        let contractor = some_contractor(random);
+        set_count(&mut roll, contractor, standing_count(random));
+        let grant = Grant {
+            contractor: contractor as u16,
+            count: count(&roll, contractor),
+            block: some_size_block(random),
+            right: random.pick(&[1, 2]),
+        };
+        let plain = grant.plain_bytes();
+        let mut encipher =
+            |plain: &[u8]| oracle.block(Way::Encipher, &self.key, self.rounds, plain);
+        let issued = encipher(&plain);
+        let mut tampered = Vec::new();
+        for _ in 0..TAMPERED {
+            tampered.push(match random.below(6) {
+                0 => random.bytes(BLOCK_BYTES),
+                1 | 2 => one_bit_changed(&issued, 0..96, random),
+                _ => encipher(&forged(&plain, random)),
+            });
+        }
+        Held {
+            roll,
+            contractor,
+            size_block: grant.block,
+            right: u32::from(grant.right),
+            grant: issued,
+            tampered,
+        }
+    }
+}
+
+/// Plain bytes of a grant with something in them replaced.
+fn forged(plain: &[u8], random: &mut Random) -> Vec<u8> {
+    let mut forged = plain.to_vec();
+    match random.below(6) {
+        0 => forged = one_bit_changed(plain, 72..96, random),
+        1 => forged[9..].copy_from_slice(&random.bytes(3)),
+        2 => {
+            let contractor: u16 = random.pick(&[0, 201, 255, 256, 257, 456, 51_200, 65_535]);
+            forged[..2].copy_from_slice(&contractor.to_be_bytes());
+        }
+        3 => forged[8] = random.pick(&[0, 3, 4, 129, 130, 254, 255]),
+        4 => forged[2..4].copy_from_slice(&some_count(random).to_be_bytes()),
+        _ => forged = one_bit_changed(plain, 16..32, random),
+    }
+    forged
+}
+
+/// Bytes with one bit changed, of those in a range.
+pub fn one_bit_changed(
+    bytes: &[u8],
+    range: std::ops::Range<usize>,
+    random: &mut Random,
+) -> Vec<u8> {
+    let bit = range.start + random.below(range.len());
+    let mut changed = bytes.to_vec();
+    changed[bit / 8] ^= 0x80 >> (bit % 8);
+    changed
+}
+
+/// Random or structured bytes.
+pub fn bytes(length: usize, random: &mut Random) -> Vec<u8> {
+    match random.below(12) {
+        0 => vec![0; length],
+        1 => vec![0xff; length],
+        2 if length > 0 => one_bit_changed(&vec![0; length], 0..8 * length, random),
+        3 => (0..length).map(|place| place as u8).collect(),
+        4 => vec![random.byte(); length],
+        _ => random.bytes(length),
+    }
+}
+
+/// A round count that the key length allows.
+pub fn right_rounds(key_length: usize, random: &mut Random) -> u32 {
+    let range = allowed_rounds(key_length).expect("the key length is right");
+    let choices: Vec<u32> = range.collect();
+    random.pick(&choices)
+}
+
+/// A contractor, often the first or the last.
+pub fn some_contractor(random: &mut Random) -> u32 {
+    match random.below(6) {
+        0 => 1,
+        1 => 200,
+        _ => 1 + random.below(200) as u32,
+    }
+}
+
+/// A size block, often at an end.
+pub fn some_size_block(random: &mut Random) -> u32 {
+    let word = random.word();
+    random.pick(&[0, 1, u32::MAX, word, word, word])
+}
+
+/// A count, often near an end.
+pub fn some_count(random: &mut Random) -> u16 {
+    match random.below(4) {
+        0 => random.below(4) as u16,
+        1 => 65_531 + random.below(5) as u16,
+        _ => random.word() as u16,
+    }
+}
+
+/// A count of someone in standing.
+pub fn standing_count(random: &mut Random) -> u16 {
+    let count = some_count(random) | 1;
+    count.min(65_533)
+}
+
+/// A roll: of random counts, of counts near the ends, new, or after some life.
+fn roll(random: &mut Random) -> Vec<u8> {
+    match random.below(6) {
+        0 => vec![0; ROLL_BYTES],
+        1 => random.bytes(ROLL_BYTES),
+        2 => lived(&[0; ROLL_BYTES], random),
+        _ => {
+            let counts = (0..ROLL_BYTES / 2).flat_map(|_| some_count(random).to_be_bytes());
+            counts.collect()
+        }
+    }
+}
+
+/// A roll after some calls on it for any contractors, the refused ones among them.
+fn lived(roll: &[u8], random: &mut Random) -> Vec<u8> {
+    let mut model = model(roll);
+    for _ in 0..LIFE {
+        let contractor = some_contractor(random) as u16;
+        // A call that is refused changes nothing, as it has to be.
+        let _ = match random.below(2) {
+            0 => model.enter(contractor),
+            _ => model.withdraw(contractor),
+        };
+    }
+    rolls::bytes(&model)
+}
+
+/// A roll after so many changes of one contractor's standing, or fewer where the count is spent.
+pub fn changed(roll: &[u8], contractor: u32, times: usize) -> Vec<u8> {
+    let mut model = model(roll);
+    let contractor = contractor as u16;
+    for _ in 0..times {
+        if model.enter(contractor).is_err() && model.withdraw(contractor).is_err() {
+            break;
+        }
+    }
+    rolls::bytes(&model)
+}

@@ -1,0 +1,115 @@
+//! What the independent program computes: lists, blocks, stages. Results are kept, because it is
+//! slow.
+
+use std::collections::HashMap;
+
+use curupira_reference::cipher::{decrypt_with, decryption_keys, encrypt_with};
+use curupira_reference::error::Error;
+use curupira_reference::matrix::{Matrix, State};
+use curupira_reference::schedule::{cipher_key, key_stage, round_subkeys};
+
+/// The bytes of a stage as the library gives it: those of the key, then zeros.
+const STAGE_BYTES: usize = 24;
+
+/// Whether a block is enciphered or deciphered.
+#[derive(Clone, Copy, Debug, PartialEq, Eq, Hash)]
+pub enum Way {
+    Encipher,
+    Decipher,
+}
+
+/// The question of a block: the way, the key, the rounds, the block.
+type Question = (Way, Vec<u8>, u32, Vec<u8>);
+
+/// The independent program, with what it was asked before. Every key that it is given has 12, 18 or
+/// 24 bytes, every round count and stage is allowed for the key, and every block has 12 bytes;
+/// anything else is a mistake in this package, and it panics.
+#[derive(Default)]
+pub struct Oracle {
+    subkeys: HashMap<Vec<u8>, Vec<State>>,
+    blocks: HashMap<Question, Vec<u8>>,
+}
+
+impl Oracle {
+    /// An oracle that was asked nothing yet.
+    pub fn new() -> Self {
+        Oracle::default()
+    }
+
+    /// A block enciphered, or deciphered by undoing every map of enciphering.
+    pub fn block(&mut self, way: Way, key: &[u8], rounds: u32, block: &[u8]) -> Vec<u8> {
+        let question = (way, key.to_vec(), rounds, block.to_vec());
+        if let Some(known) = self.blocks.get(&question) {
+            return known.clone();
+        }
+        let subkeys = self.first_subkeys(key, rounds);
+        let state = state_of(block);
+        let result = match way {
+            Way::Encipher => encrypt_with(subkeys, &state),
+            Way::Decipher => decrypt_with(subkeys, &state),
+        };
+        let result = sound(result).to_bytes();
+        self.blocks.insert(question, result.clone());
+        result
+    }
+
+    /// The prepared list for one way: the subkeys, or the decryption keys of the paper's Theorem 1.
+    pub fn list(&mut self, way: Way, key: &[u8], rounds: u32) -> Vec<u8> {
+        let subkeys = self.first_subkeys(key, rounds);
+        match way {
+            Way::Encipher => bytes_of(subkeys),
+            Way::Decipher => bytes_of(&sound(decryption_keys(subkeys))),
+        }
+    }
+
+    /// What the engine makes of a block over any list.
+    pub fn run(list: &[u8], block: &[u8]) -> Vec<u8> {
+        let subkeys: Vec<State> = list.chunks(12).map(state_of).collect();
+        sound(encrypt_with(&subkeys, &state_of(block))).to_bytes()
+    }
+
+    /// The 24 bytes of a key's stage.
+    pub fn stage(key: &[u8], stage: u32) -> Vec<u8> {
+        let mut bytes = match key.len() {
+            12 => stage_bytes::<4>(key, stage),
+            18 => stage_bytes::<6>(key, stage),
+            _ => stage_bytes::<8>(key, stage),
+        };
+        bytes.resize(STAGE_BYTES, 0);
+        bytes
+    }
+
+    /// The subkey of a key's stage.
+    pub fn subkey(&mut self, key: &[u8], stage: u32) -> Vec<u8> {
+        self.subkeys(key)[stage as usize].to_bytes()
+    }
+
+    /// The subkeys 0 to `rounds` of a key.
+    fn first_subkeys(&mut self, key: &[u8], rounds: u32) -> &[State] {
+        &self.subkeys(key)[..=rounds as usize]
+    }
+
+    /// The subkeys of all stages of a key.
+    fn subkeys(&mut self, key: &[u8]) -> &[State] {
+        self.subkeys
+            .entry(key.to_vec())
+            .or_insert_with(|| sound(round_subkeys(key, key.len() - 1)))
+    }
+}
+
+/// What the independent program answers to a question that it has to answer.
+fn sound<T>(answer: Result<T, Error>) -> T {
+    answer.unwrap_or_else(|error| panic!("the independent program refuses: {error}"))
+}
+
+fn state_of(block: &[u8]) -> State {
+    Matrix::from_bytes(block).expect("12 bytes are a state")
+}
+
+fn bytes_of(list: &[State]) -> Vec<u8> {
+    list.iter().flat_map(State::to_bytes).collect()
+}
+
+fn stage_bytes<const N: usize>(key: &[u8], stage: u32) -> Vec<u8> {
+    key_stage(&sound(cipher_key::<N>(key)), stage as usize).to_bytes()
+}

@@ -1,0 +1,154 @@
+//! Spoils one argument of a case: it is mostly wrong after that, and now and then only different.
+
+use crate::call::Argument;
+use crate::case::Case;
+use crate::expect::needed;
+use crate::family::{self, one_bit_changed};
+use crate::random::Random;
+
+/// Lengths of no key. The last one differs from 12 by 256.
+const KEY_LENGTHS: [usize; 10] = [0, 1, 11, 13, 17, 19, 23, 25, 32, 268];
+
+/// Lengths of no roll. The last one differs from 400 by 65,536.
+const ROLL_LENGTHS: [usize; 9] = [0, 1, 144, 398, 399, 401, 402, 600, 65_936];
+
+/// Lengths of no block and no grant. The last two differ from 12 by 256 and by 65,536.
+const BLOCK_LENGTHS: [usize; 8] = [0, 1, 11, 13, 16, 24, 268, 65_548];
+
+/// Lengths of no list. The last two differ from 132 by 256 and by 65,536.
+const LIST_LENGTHS: [usize; 14] = [
+    0, 1, 12, 24, 120, 131, 133, 143, 145, 287, 289, 300, 388, 65_668,
+];
+
+/// Spoils an argument.
+pub fn spoil(case: &mut Case, argument: Argument, random: &mut Random) {
+    match argument {
+        Argument::Key => spoil_key(case, random),
+        Argument::Rounds => case.rounds = other_rounds(case.rounds, random),
+        Argument::Stage => case.stage = other_stage(case, random),
+        Argument::Roll => {
+            let length = random.pick(&ROLL_LENGTHS);
+            resize(&mut case.roll, length, random);
+        }
+        Argument::List => spoil_list(case, random),
+        Argument::Block | Argument::Grant => {
+            let length = random.pick(&BLOCK_LENGTHS);
+            resize(&mut case.block, length, random);
+        }
+        Argument::Contractor => case.contractor = other_contractor(random),
+        Argument::SizeBlock => case.size_block = other_size_block(case.size_block, random),
+        Argument::Right => case.right = other_right(case.right, random),
+        Argument::Out => case.out = shorter_output(case, random),
+    }
+}
+
+/// A key of a wrong length, of another right length, or with one bit changed.
+fn spoil_key(case: &mut Case, random: &mut Random) {
+    if case.key.is_empty() || random.below(16) > 1 {
+        let length = random.pick(&KEY_LENGTHS);
+        resize(&mut case.key, length, random);
+    } else if random.once_in(2) {
+        let length = random.pick(&[12, 18, 24]);
+        resize(&mut case.key, length, random);
+    } else {
+        case.key = one_bit_changed(&case.key, 0..8 * case.key.len(), random);
+    }
+}
+
+/// Cuts bytes, or adds random ones. Those that are long for no other reason end in one byte, to
+/// save time.
+fn resize(bytes: &mut Vec<u8>, length: usize, random: &mut Random) {
+    let grown = length.saturating_sub(bytes.len());
+    bytes.truncate(length);
+    if grown < 1000 {
+        bytes.extend(random.bytes(grown));
+    } else {
+        bytes.resize(length, random.byte());
+    }
+}
+
+/// A round count in or around the table, or a huge one.
+fn other_rounds(rounds: u32, random: &mut Random) -> u32 {
+    match random.below(10) {
+        0..=3 => random.below(28) as u32,
+        4 => 266,
+        5 => u32::MAX,
+        6 => random.word(),
+        7 => rounds ^ (1 << random.below(32)),
+        _ => rounds.wrapping_add(random.pick(&[1 << 8, 1 << 16, 1 << 24, 1 << 31])),
+    }
+}
+
+/// A stage at the end or past it, or a huge number.
+fn other_stage(case: &Case, random: &mut Random) -> u32 {
+    let turn = case.key.len() as u32;
+    match random.below(8) {
+        0 => turn,
+        1 => turn + 1,
+        2 => random.pick(&[11, 12, 17, 18, 23, 24, 25]),
+        3 => u32::MAX,
+        4 => random.word(),
+        5 => case.stage.wrapping_add(turn),
+        _ => case
+            .stage
+            .wrapping_add(random.pick(&[1 << 8, 1 << 16, 1 << 24, 1 << 31])),
+    }
+}
+
+/// A list of a wrong length, or mostly so.
+fn spoil_list(case: &mut Case, random: &mut Random) {
+    let length = match random.below(3) {
+        0 => random.below(400),
+        _ => random.pick(&LIST_LENGTHS),
+    };
+    resize(&mut case.list, length, random);
+}
+
+/// A number that is mostly that of no contractor.
+fn other_contractor(random: &mut Random) -> u32 {
+    let contractor = family::some_contractor(random);
+    match random.below(10) {
+        0 => 0,
+        1 | 2 => 201,
+        3 => (1 << 16) + contractor,
+        4 => (1 << 8) + contractor,
+        5 => contractor << 16,
+        6 => u32::MAX,
+        7 => random.word(),
+        8 => 201 + random.below(56) as u32,
+        _ => contractor,
+    }
+}
+
+/// Another size block, or one that differs in one bit.
+fn other_size_block(size_block: u32, random: &mut Random) -> u32 {
+    match random.below(6) {
+        0 => size_block.wrapping_add(1),
+        1 => size_block.swap_bytes(),
+        2 | 3 => size_block ^ (1 << random.below(32)),
+        _ => family::some_size_block(random),
+    }
+}
+
+/// The other right, or something that is none.
+fn other_right(right: u32, random: &mut Random) -> u32 {
+    match random.below(8) {
+        0..=2 => 3_u32.wrapping_sub(right),
+        3 => random.below(4) as u32,
+        4 => right.wrapping_add(1 << 8),
+        5 => right.wrapping_add(1 << 16),
+        6 => random.pick(&[0, 3, 257, u32::MAX]),
+        _ => random.word(),
+    }
+}
+
+/// The length of an output that is too short.
+fn shorter_output(case: &Case, random: &mut Random) -> usize {
+    let needed = needed(case).min(400) as usize;
+    match random.below(4) {
+        0 => 0,
+        1 => 1,
+        2 => needed - 1,
+        _ => random.below(needed),
+    }
+}
