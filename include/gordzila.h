@@ -7,12 +7,15 @@
  * Rules for every call:
  *  - Bytes are lent as a pointer and a length. The pointer is never null, also where the length is 0, and points to at
  *    least as many bytes as the length says. The library keeps no pointer after the call.
- *  - What a call writes to (out) overlaps nothing else that is lent to it. What it only reads may overlap.
+ *  - What a call writes to (out, or the roll that it enters or withdraws on) overlaps nothing else that is lent to it. What it
+ *    only reads may overlap.
  *  - A call takes any lengths and numbers. Where they are wrong, it refuses with a number and writes nothing. Where more than
  *    one reason holds, it gives the first in the order that stands with the call.
- *  - Where it does not refuse, it writes the bytes that are said below, from the start of out, and no byte after them.
- *  - The calls have no state and may be made from any thread. Their time depends on the key and the data: they are not made to
- *    resist an observer of time.
+ *  - Where it does not refuse, it writes the bytes that are said below, from the start of out, and no byte after them; entering
+ *    and withdrawing write the roll's 400 bytes.
+ *  - The calls have no state of their own and may be made from any thread. While a call writes to bytes, no other call may have
+ *    them lent: rooms or threads that share a roll make their calls on it one after the other.
+ *  - Their time depends on the key and the data: they are not made to resist an observer of time.
  */
 #ifndef GORDZILA_H
 #define GORDZILA_H
@@ -24,7 +27,7 @@
 extern "C" {
 #endif
 
-/* Reasons for which a call refuses. */
+/* Reasons for which a call refuses. No call of this header has a key holder, so none gives 24. */
 enum {
     /* found in the input */
     GORDZILA_KEY_LENGTH = 1,       /* key not 12, 18 or 24 bytes */

@@ -11,8 +11,9 @@ use Rattle.grant.specs.declared.Right.{Right}
 use Rattle.grant.specs.declared.Right.the-variants.{Reading, Overwriting}
 use Rattle.grant.specs.declared.Verdict.the-variants.{Opens, Refused}
 use Rattle.grant.specs.Grants.{rightNumber}
-use Rattle.capi.specs.Claims.{CodesTellVerdicts, ChecksNameContractors}
+use Rattle.capi.specs.Claims.{CodesTellVerdicts, ChecksNameContractors, CallInOrder, CallOpensExactlyWhen}
 use Rattle.capi.proofs.Calls.{checked-contractor}
+use Rattle.capi.proofs.Opens.{in-order, call-opening, call-accepted}
 
 -- right and contractor from the number
 right-tells : (a b : Right) (c d : ℕ) → 1 ≤ c → c ≤ 200 → 1 ≤ d → d ≤ 200 → 1000 * rightNumber a + c ≡ 1000 * rightNumber b + d → a ≡ b
@@ -44,4 +45,15 @@ codes-tell-verdicts (Refused s) (Refused u) p q e = ap Refused (numbers-tell-rea
 
 pub checks-name-contractors : ChecksNameContractors
 unfolding ChecksNameContractors
-checks-name-contractors = checked-contractor
+checks-name-contractors key rounds roll grant block right (Opens g) n c =
+    let h = checked-contractor key rounds roll grant block right (sym n) in (omega (arith, h .0, c), omega (arith, h .1, c))
+checks-name-contractors key rounds roll grant block right (Refused r) n c = tt
+
+pub call-in-order : CallInOrder
+unfolding CallInOrder
+call-in-order = in-order
+
+pub call-opens-exactly-when : CallOpensExactlyWhen
+unfolding CallOpensExactlyWhen
+call-opens-exactly-when key hk rounds roll grant hg block few right =
+    (call-opening key hk rounds roll grant hg block few right, call-accepted key hk rounds roll grant hg block few right)

@@ -1,3 +1,4 @@
 pub mod Calls
 pub mod Hosts
+pub mod Opens
 pub mod Claims

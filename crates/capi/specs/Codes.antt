@@ -1,18 +1,18 @@
 -- What the C call of the check returns: document 01, "What the store calls" and reason 3.
-use mathlib.Core.Bool.{false, cond}
+use mathlib.Core.Bool.{false, cond, _&&_}
 use mathlib.Core.List.{List, [], _∷_}
 use Prim.Native.Nat.{ℕ, _+_, _*_}
 use lib.Dec.{eqb}
 use lib.ListN.{length}
 use Rattle.refusal.specs.Reasons.{reasonNumber}
-use Rattle.refusal.specs.Tries.{_unless_, first, answered}
+use Rattle.refusal.specs.Tries.{Try, _unless_, first, answered}
 use Rattle.sizes.specs.Sizes.{keyLength, roundsAllowed}
 use Rattle.roll.specs.declared.Roll.{Roll}
 use Rattle.roll.specs.Roll.{rollOf}
 use Rattle.grant.specs.declared.Verdict.{Verdict}
 use Rattle.grant.specs.declared.Verdict.the-variants.{Opens, Refused}
-use Rattle.grant.specs.Grants.{rightNumber}
-use Rattle.grant.specs.Calls.{checkNumber, checkContractor, checkRight}
+use Rattle.grant.specs.Grants.{isRight, rightNumber}
+use Rattle.grant.specs.Calls.{openedGrant, plainTries, checkNumber, checkContractor, checkRight}
 
 -- a verdict as a number: the refusal number, or 1,000 times the right plus the contractor
 abbrev pub verdictCode : Verdict → ℕ
@@ -34,3 +34,12 @@ wrongRoll key rounds = first ((1 unless keyLength (length key)) ∷ (2 unless ro
 unfoldable pub callCode : List ℕ → ℕ → List ℕ → List ℕ → ℕ → ℕ → ℕ
 callCode key rounds roll grant block right =
     cond (eqb (length roll) 400) (checkCode key rounds (rollOf roll) grant block right) (wrongRoll key rounds)
+
+-- the order line of the C call: that of the check, with 3 for the grant or the roll
+abbrev pub callTries : List ℕ → ℕ → List ℕ → List ℕ → ℕ → ℕ → List Try
+callTries key rounds roll grant block right =
+    (1 unless keyLength (length key))
+    ∷ (2 unless roundsAllowed (length key) rounds)
+    ∷ (3 unless (eqb (length roll) 400 && eqb (length grant) 12))
+    ∷ (7 unless isRight right)
+    ∷ plainTries (openedGrant key rounds grant) (rollOf roll) block right

@@ -2,8 +2,8 @@
 use mathlib.Core.Path.{refl, sym, ap, _∙_}
 use Rattle.refusal.proofs.Answers.{answer-refused}
 use Rattle.roll.specs.Roll.{countOf, inStanding, counted, enterTries, enterNumber, enteredRoll, withdrawTries, withdrawNumber, withdrawnRoll}
-use Rattle.histories.specs.Claims.{CountsNeverFall, OthersCountsStay, RefusedChangesNothing, CallsCount, NothingWraps, NobodyComesBack, WithdrawalCounts}
-use Rattle.histories.proofs.Counts.{entering, withdrawing, after-grows, changed-other, entered-own, withdrawn-own, entered-stands, withdrawn-out, spent-out, after-roll, empty-roll, counted-up, spent-stays, not-back}
+use Rattle.histories.specs.Claims.{CountsNeverFall, OthersCountsStay, RefusedChangesNothing, CallsCount, NothingWraps, NobodyComesBack, WithdrawalCounts, WithdrawsCounts}
+use Rattle.histories.proofs.Counts.{entering, withdrawing, after-grows, changed-other, entered-own, withdrawn-own, entered-stands, withdrawn-out, spent-out, after-roll, empty-roll, counted-up, asked-counts, spent-stays, not-back}
 
 pub counts-never-fall : CountsNeverFall
 unfolding CountsNeverFall
@@ -47,3 +47,7 @@ nobody-comes-back hs roll r c hc = record {
 pub withdrawal-counts : WithdrawalCounts
 unfolding WithdrawalCounts
 withdrawal-counts = counted-up
+
+pub withdraws-counts : WithdrawsCounts
+unfolding WithdrawsCounts
+withdraws-counts = asked-counts

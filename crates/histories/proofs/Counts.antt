@@ -8,12 +8,12 @@ use lib.Dec.{eqb, lit<}
 use lib.ListN.{getD, set, replicate, length-set, length-replicate}
 use lib.Seq.{getD-set-same, getD-set-other}
 use borrow.Author.Tests.{ltb-true, not-true, eqb-true, eqb-false}
-use Rattle.refusal.proofs.Tries.{none-holds}
+use Rattle.refusal.proofs.Tries.{none-holds, none-given}
 use Rattle.refusal.proofs.Answers.{answer-done, answer-either}
 use Rattle.roll.specs.declared.Roll.{Roll}
 use Rattle.roll.specs.Roll.{emptyRoll, isContractor, countOf, inStanding, counted, enterTries, enterNumber, enteredRoll, withdrawTries, withdrawNumber, withdrawnRoll}
 use Rattle.roll.proofs.Contractors.{a-contractor, a-standing, is-standing}
-use Rattle.histories.specs.Histories.{Change, enter, withdraw, changeOf, changed, rollAfter, Withdrawn, here, later, IsRoll}
+use Rattle.histories.specs.Histories.{Change, enter, withdraw, changeOf, changed, rollAfter, Withdrawn, here, later, Withdraws, now-asked, asked-later, Merge, left, right, IsRoll}
 
 -- ---- one more at a place of a list
 raise-grows : (xs : List ℕ) (i j : ℕ) → getD xs j 0 ≤ getD (set xs i (getD xs i 0 + 1)) j 0
@@ -153,6 +153,38 @@ withdrawal {c} r (later {h} {hs} {roll} w) = let a = changed-grows h roll c in l
 
 pub counted-up : (hs : List Change) (roll : Roll) → IsRoll roll → (c : ℕ) → Withdrawn c hs roll → countOf roll c < countOf (rollAfter hs roll) c
 counted-up hs roll r c w = withdrawal r w
+
+-- a count rises over a list of calls where it rises at the first of them, or else after it
+rises : (h : Change) (hs : List Change) (roll : Roll) (c : ℕ)
+    → (countOf (changed h roll) c ≡ countOf roll c → countOf (changed h roll) c < countOf (rollAfter hs (changed h roll)) c)
+    → countOf roll c < countOf (rollAfter hs (changed h roll)) c
+rises h hs roll c f = by (eqb (countOf (changed h roll) c) (countOf roll c)) refl
+  where
+    by : (b : Bool) → eqb (countOf (changed h roll) c) (countOf roll c) ≡ b → countOf roll c < countOf (rollAfter hs (changed h roll)) c
+    by true e = let same = eqb-true (countOf (changed h roll) c) (countOf roll c) e in omega (arith, same, f same)
+    by false e = omega (arith, eqb-false (countOf (changed h roll) c) (countOf roll c) e, changed-grows h roll c, after-grows hs (changed h roll) c)
+
+-- refused or not: who is in standing at first has been withdrawn, by this call or before it
+asked : {c : ℕ} {hs : List Change} → Withdraws c hs → (roll : Roll) → IsRoll roll → isContractor c ≡ true → inStanding (countOf roll c) ≡ true → countOf roll c < countOf (rollAfter hs roll) c
+unfolding rollAfter
+asked {c} (now-asked {hs}) roll r hc s = withdrawal {hs = withdraw c ∷ hs} r (here (none-given (withdrawTries roll c) (hc, (s, tt))))
+asked {c} (asked-later {h} {hs} w) roll r hc s =
+    rises h hs roll c (λ same. asked w (changed h roll) (changed-roll h roll r) hc (ap inStanding same ∙ s))
+
+pub asked-counts : (hs : List Change) (roll : Roll) → IsRoll roll → (c : ℕ) → isContractor c ≡ true → inStanding (countOf roll c) ≡ true
+    → Withdraws c hs → countOf roll c < countOf (rollAfter hs roll) c
+asked-counts hs roll r c hc s w = asked w roll r hc s
+
+-- ---- what either room asks, the roll sees
+pub left-seen : {c : ℕ} {xs ys zs : List Change} → Merge xs ys zs → Withdraws c xs → Withdraws c zs
+left-seen (left m) now-asked = now-asked
+left-seen (left m) (asked-later w) = asked-later (left-seen m w)
+left-seen (right m) w = asked-later (left-seen m w)
+
+pub right-seen : {c : ℕ} {xs ys zs : List Change} → Merge xs ys zs → Withdraws c ys → Withdraws c zs
+right-seen (right m) now-asked = now-asked
+right-seen (right m) (asked-later w) = asked-later (right-seen m w)
+right-seen (left m) w = asked-later (right-seen m w)
 
 -- ---- the end of the range
 -- a call on a contractor whose count is spent changes nothing

@@ -5,7 +5,7 @@ use mathlib.Core.List.{List}
 use Prim.Native.Nat.{ℕ, _+_, _≤_, _<_}
 use Rattle.roll.specs.declared.Roll.{Roll}
 use Rattle.roll.specs.Roll.{emptyRoll, isContractor, countOf, inStanding, enterNumber, enteredRoll, withdrawNumber, withdrawnRoll}
-use Rattle.histories.specs.Histories.{Change, changeOf, changed, rollAfter, Withdrawn, IsRoll}
+use Rattle.histories.specs.Histories.{Change, changeOf, changed, rollAfter, Withdrawn, Withdraws, IsRoll}
 
 -- counts never fall
 unfoldable pub CountsNeverFall : Type 0
@@ -47,3 +47,8 @@ NobodyComesBack = (hs : List Change) (roll : Roll) → IsRoll roll → (c : ℕ)
 -- a list with an accepted withdrawal of c leaves c's count above what it was at first
 unfoldable pub WithdrawalCounts : Type 0
 WithdrawalCounts = (hs : List Change) (roll : Roll) → IsRoll roll → (c : ℕ) → Withdrawn c hs roll → countOf roll c < countOf (rollAfter hs roll) c
+
+-- and so does a list with any withdrawal of c, refused or not, where c is in standing at first
+unfoldable pub WithdrawsCounts : Type 0
+WithdrawsCounts = (hs : List Change) (roll : Roll) → IsRoll roll → (c : ℕ) → isContractor c ≡ true → inStanding (countOf roll c) ≡ true
+    → Withdraws c hs → countOf roll c < countOf (rollAfter hs roll) c

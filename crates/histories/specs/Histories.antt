@@ -28,6 +28,11 @@ pub data Withdrawn (c : ℕ) : List Change → Roll → Type 0 where
   here : {hs : List Change} {roll : Roll} → withdrawNumber roll c ≡ 0 → Withdrawn c (withdraw c ∷ hs) roll
   later : {h : Change} {hs : List Change} {roll : Roll} → Withdrawn c hs (changed h roll) → Withdrawn c (h ∷ hs) roll
 
+-- a list of calls has among them a withdrawal of c, refused or not
+pub data Withdraws (c : ℕ) : List Change → Type 0 where
+  now-asked : {hs : List Change} → Withdraws c (withdraw c ∷ hs)
+  asked-later : {h : Change} {hs : List Change} → Withdraws c hs → Withdraws c (h ∷ hs)
+
 -- zs has the calls of xs and of ys, each in their order: what one roll sees of two rooms
 pub data Merge : List Change → List Change → List Change → Type 0 where
   none : Merge [] [] []

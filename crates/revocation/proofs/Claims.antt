@@ -1,12 +1,21 @@
 -- A term of each type of specs/Claims.antt.
+use mathlib.Core.Path.{refl}
+use Prim.Native.Nat.{ℕ, zero, suc, _<_}
+use lib.ListN.{getD, replicate}
+use Rattle.refusal.specs.Tries.{first, answered}
+use Rattle.roll.specs.Roll.{emptyRoll, countOf, inStanding, counted, enteredRoll}
+use Rattle.histories.specs.Histories.{enter, changed, here, IsRoll}
+use Rattle.histories.proofs.Counts.{changed-roll, empty-roll}
+use mathlib.Core.Logic.{inl, inr}
 use mathlib.Core.List.{List}
 use lib.Dec.{lit<}
 use Rattle.refusal.specs.Tries.{Try}
 use Rattle.refusal.specs.Claims.{Numbered}
 use Rattle.refusal.proofs.Tries as tries
-use Rattle.revocation.specs.Claims.{Ordered, OpensExactlyWhen, EachRefusalFirst, IssuedOpens, RevokedNeverOpens, RevokedInTwoRooms, OthersUndisturbed, NumbersTellVerdicts}
+use Rattle.histories.proofs.Counts.{left-seen, right-seen}
+use Rattle.revocation.specs.Claims.{Ordered, OpensExactlyWhen, EachRefusalFirst, IssuedOpens, RevokedNeverOpens, RevokedInTwoRooms, RevocationHappens, OthersUndisturbed, NumbersTellVerdicts}
 use Rattle.revocation.proofs.Checks.{check-numbered, opening, accepted}
-use Rattle.revocation.proofs.Issued.{checks, revoked}
+use Rattle.revocation.proofs.Issued.{checks, revoked, revoked-asked}
 use Rattle.revocation.proofs.Others.{same-check, verdicts-told}
 
 pub opens-exactly-when : OpensExactlyWhen
@@ -36,7 +45,21 @@ revoked-never-opens = revoked
 
 pub revoked-in-two-rooms : RevokedInTwoRooms
 unfolding RevokedInTwoRooms
-revoked-in-two-rooms key rounds roll contractor block right out i xs ys hs m w = revoked key rounds roll contractor block right out i hs w
+revoked-in-two-rooms key rounds roll contractor block right out i xs ys zs m w =
+    revoked-asked key rounds roll contractor block right out i zs (elim w [ inl l ↦ left-seen m l | inr r ↦ right-seen m r ])
+
+zeros-small : (n i : ℕ) → getD (replicate n 0) i 0 < 256
+zeros-small zero i = lit< tt
+zeros-small (suc n) zero = lit< tt
+zeros-small (suc n) (suc i) = zeros-small n i
+
+entered-7 : IsRoll (enteredRoll emptyRoll 7)
+unfolding changed
+entered-7 = changed-roll (enter 7) emptyRoll empty-roll
+
+pub revocation-happens : RevocationHappens
+unfolding RevocationHappens first answered emptyRoll countOf inStanding counted enteredRoll
+revocation-happens = (record { key-bytes = zeros-small 12; is-roll = entered-7; block-small = lit< tt; number = refl }, here refl)
 
 pub others-undisturbed : OthersUndisturbed
 unfolding OthersUndisturbed

@@ -16,8 +16,8 @@ use Rattle.cipher.proofs.Claims.{deciphers-what-was-enciphered}
 use Rattle.roll.specs.declared.Roll.{Roll}
 use Rattle.roll.specs.Roll.{countOf}
 use Rattle.roll.proofs.Contractors.{Contractor, a-contractor, a-standing}
-use Rattle.histories.specs.Histories.{Change, rollAfter, Withdrawn}
-use Rattle.histories.proofs.Counts.{counted-up}
+use Rattle.histories.specs.Histories.{Change, rollAfter, Withdrawn, Withdraws}
+use Rattle.histories.proofs.Counts.{counted-up, asked-counts}
 use Rattle.grant.specs.Grants.{isRight, plainGrant, contractorIn, countIn, blockIn, rightIn}
 use Rattle.grant.specs.Calls.{issueTries, issuedGrant, openedGrant}
 use Rattle.grant.proofs.Tests.{right-small}
@@ -121,10 +121,16 @@ module _ (key : List ℕ) (rounds : ℕ) (roll : Roll) (contractor block right :
             ∙ first-holds _ _ (ne-eqb (rightIn (openedGrant key rounds g)) r (λ e. d (sym e ∙ nr)));
       }
 
-  pub revoked : (hs : List Change) → Withdrawn contractor hs roll → OpensNothing key rounds (rollAfter hs roll) (issuedGrant key rounds roll contractor block right)
-  revoked hs w b r e =
-      let later = rollAfter hs roll in
+  -- where the count has risen, the grant opens nothing
+  risen : (later : Roll) → countOf roll contractor < countOf later contractor → OpensNothing key rounds later (issuedGrant key rounds roll contractor block right)
+  risen later l b r e =
       let h = passed key rounds later (issuedGrant key rounds roll contractor block right) b r e in
       let same = eqb-true (countIn (openedGrant key rounds (issuedGrant key rounds roll contractor block right))) (countOf later (contractorIn (openedGrant key rounds (issuedGrant key rounds roll contractor block right)))) (h .1 .1 .1 .1 .1 .1 .1 .1 .0) in
       let z : countOf roll contractor ≡ countOf later contractor = sym (names .1) ∙ same ∙ ap (countOf later) (names .0) in
-      omega (arith, counted-up hs roll (i .is-roll) contractor w)
+      omega (arith, l)
+
+  pub revoked : (hs : List Change) → Withdrawn contractor hs roll → OpensNothing key rounds (rollAfter hs roll) (issuedGrant key rounds roll contractor block right)
+  revoked hs w = risen (rollAfter hs roll) (counted-up hs roll (i .is-roll) contractor w)
+
+  pub revoked-asked : (hs : List Change) → Withdraws contractor hs → OpensNothing key rounds (rollAfter hs roll) (issuedGrant key rounds roll contractor block right)
+  revoked-asked hs w = risen (rollAfter hs roll) (asked-counts hs roll (i .is-roll) contractor (allowed .1 .1 .1 .0) (allowed .1 .1 .1 .1 .1 .0) w)

@@ -3,16 +3,16 @@
 use mathlib.Core.Bool.{true}
 use mathlib.Core.Logic.{_⊎_}
 use mathlib.Core.Path.{_≡_}
-use mathlib.Core.List.{List}
+use mathlib.Core.List.{List, [], _∷_}
 use Prim.Native.Nat.{ℕ, _%_, _≤_, _<_}
-use lib.ListN.{length}
+use lib.ListN.{length, replicate}
 use Rattle.refusal.specs.Tries.{Try, first, NoneHolds}
 use Rattle.refusal.specs.Claims.{FirstOf}
 use Rattle.blocks.specs.Blocks.{AreBytes}
 use Rattle.sizes.specs.Sizes.{keyLength, roundsAllowed}
 use Rattle.roll.specs.declared.Roll.{Roll}
-use Rattle.roll.specs.Roll.{countOf, enterTries, withdrawTries}
-use Rattle.histories.specs.Histories.{Change, changeOf, changed, rollAfter, Withdrawn, Merge, IsRoll}
+use Rattle.roll.specs.Roll.{emptyRoll, countOf, enterTries, enteredRoll, withdrawTries}
+use Rattle.histories.specs.Histories.{Change, withdraw, changeOf, changed, rollAfter, Withdrawn, Withdraws, Merge, IsRoll}
 use Rattle.grant.specs.declared.Verdict.{Verdict}
 use Rattle.grant.specs.Grants.{isRight, plainGrant, contractorIn, verdictNumber, verdictContractor, verdictRight}
 use Rattle.grant.specs.Calls.{issueTries, issueNumber, issuedGrant, openedGrant, checkTries, checkNumber, checkContractor, checkRight}
@@ -94,12 +94,19 @@ RevokedNeverOpens = (key : List ℕ) (rounds : ℕ) (roll : Roll) (contractor bl
     → (hs : List Change) → Withdrawn contractor hs roll
     → OpensNothing key rounds (rollAfter hs roll) (issuedGrant key rounds roll contractor block right)
 
--- and so for two rooms that share the roll, in whatever order their calls arrive
+-- and so for two rooms that share the roll, in whatever order their calls arrive: once either has asked for the withdrawal, whether its call was
+-- the one that was accepted or not
 unfoldable pub RevokedInTwoRooms : Type 0
 RevokedInTwoRooms = (key : List ℕ) (rounds : ℕ) (roll : Roll) (contractor block right : ℕ) (out : List ℕ)
     → Issued key rounds roll contractor block right out
-    → (xs ys zs : List Change) → Merge xs ys zs → Withdrawn contractor zs roll
+    → (xs ys zs : List Change) → Merge xs ys zs → Withdraws contractor xs ⊎ Withdraws contractor ys
     → OpensNothing key rounds (rollAfter zs roll) (issuedGrant key rounds roll contractor block right)
+
+-- there are such issues and withdrawals: under a key of twelve zeros with ten rounds, contractor 7 is entered on an empty roll, gets a grant, and
+-- is withdrawn
+unfoldable pub RevocationHappens : Type 0
+RevocationHappens =
+    Issued (replicate 12 0) 10 (enteredRoll emptyRoll 7) 7 300 2 (replicate 12 0) × Withdrawn 7 (withdraw 7 ∷ []) (enteredRoll emptyRoll 7)
 
 -- ---- others
 -- entering or withdrawing a contractor changes no check of a grant to another

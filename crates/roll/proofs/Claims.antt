@@ -23,7 +23,7 @@ bytes-again (a ∷ []) zero e h = let z : ⊥ = omega (arith, e) in absurd z
 bytes-again (a ∷ []) (suc n) e h = let z : ⊥ = omega (arith, e) in absurd z
 bytes-again (a ∷ b ∷ bs) zero e h = let z : ⊥ = omega (arith, e) in absurd z
 bytes-again (a ∷ b ∷ bs) (suc n) e h = λ i.
-  high a b (h 0) (h 1) i ∷ low a b (h 1) i ∷ bytes-again bs n (omega (arith, e)) (λ j. h (suc (suc j))) i
+    high a b (h 0) (h 1) i ∷ low a b (h 1) i ∷ bytes-again bs n (omega (arith, e)) (λ j. h (suc (suc j))) i
 
 counts-again : (ns : List ℕ) → ((i : ℕ) → getD ns i 0 < 65536) → countsOf (countsBytes ns) ≡ ns
 unfolding countsOf countsBytes
