@@ -42,6 +42,6 @@ pub extern "C" fn gordzila_subkey(key: &[u8], n: u32, out: &mut [u8]) -> u32
     }
     let held = given.holder;
     let bytes = held.bytes;
-    blocks::write_state(out, schedule::subkey(bytes));
+    blocks::write_state(out, schedule::subkey(&bytes));
     0
 }

@@ -8,15 +8,11 @@ use native.Mathlib.Omega.{arith}
 use Rattle.sizes.specs.Sizes.{Sized, turn}
 use Rattle.schedule.specs.Columns.{IsStage, plus}
 use Rattle.schedule.specs.Stages.{linearStep, constant, stage, closingSum}
-use Rattle.schedule.proofs.Steps.{plus-stage, step-stage, inverseStep-stage, inverse-step, step-inverse, plus-undone}
+use Rattle.schedule.proofs.Steps.{plus-stage, inverseStep-stage, inverse-step, step-inverse, plus-undone}
 use Rattle.schedule.proofs.Stages.{stage-stage}
 use Rattle.period.proofs.Closing.{closed}
 use Rattle.cycle.specs.Cycle.{following, preceding, addend, stageAfter, stageBefore}
 use Rattle.cycle.proofs.Addends.{following-on, following-last, preceding-below, back-on, on-back, addend-on, addend-last, addend-stage}
-
-pub after-is-stage : (t s : ℕ) → s < turn t → {k : List ℕ} → IsStage (2 * t) k → IsStage (2 * t) (stageAfter t s k)
-unfolding stageAfter
-after-is-stage t s h p = step-stage (2 * t) (plus-stage (2 * t) p (addend-stage t s h))
 
 pub before-is-stage : (t s : ℕ) → s < turn t → {k : List ℕ} → IsStage (2 * t) k → IsStage (2 * t) (stageBefore t s k)
 unfolding stageBefore

@@ -34,10 +34,14 @@ pub fn stage_after(t: usize, s: usize, k: [u8; 24]) -> [u8; 24]
     ensures { λ r. ⌜ r ≡ padded (stageAfter t s k) ⌝ }
 {
     if s + 1 < 6 * t {
-        return schedule::next_stage(t, s + 1, k);
+        let end = 6 * t;
+        let mut next = schedule::stage_of_key(&k[..end]);
+        schedule::next_stage(t, s + 1, &mut next);
+        return next;
     }
-    let sum = add_closing(t, k);
-    schedule::linear_step(t, sum)
+    let mut sum = add_closing(t, k);
+    schedule::linear_step(t, &mut sum);
+    sum
 }
 
 // The stage before stage s, which is k.
@@ -45,9 +49,10 @@ pub fn stage_before(t: usize, s: usize, k: [u8; 24]) -> [u8; 24]
     requires { ⌜ Sized t × (s < 6 * t) ⌝ }
     ensures { λ r. ⌜ r ≡ padded (stageBefore t s k) ⌝ }
 {
-    let sum = inverse_step(t, k);
+    let mut sum = inverse_step(t, k);
     if 0 < s {
-        return schedule::add_constant(t, s, sum);
+        schedule::add_constant(t, s, &mut sum);
+        return sum;
     }
     add_closing(t, sum)
 }

@@ -69,6 +69,3 @@ one-times = agree-bytes (times 1) (λ x. x) (times-right 1) (λ u v. refl) tt
 
 pub times-zero : (a : ℕ) → times a 0 ≡ 0
 times-zero a = at-zero (times a) (times-right a)
-
-pub zero-times : (x : ℕ) → times 0 x ≡ 0
-zero-times x = at-zero (λ a. times a x) (times-left x)

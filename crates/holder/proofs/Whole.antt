@@ -13,7 +13,7 @@ use Rattle.schedule.specs.Columns.{columnRule}
 use Rattle.schedule.specs.Stages.{linearStep}
 use Rattle.schedule.proofs.Columns.{length-columns}
 use Rattle.schedule.proofs.Keys.{a-key}
-use Rattle.schedule.proofs.Stages.{length-plus}
+use Rattle.schedule.proofs.Padded.{length-plus}
 use Rattle.cycle.specs.Cycle.{stageAfter, stageBefore}
 use Rattle.cycle.proofs.Addends.{following-below, preceding-below}
 use Rattle.holder.specs.declared.Holder.{Holder}

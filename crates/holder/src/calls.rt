@@ -150,7 +150,7 @@ pub fn subkey(h: Holder) -> Given
         };
     }
     let bytes = h.bytes;
-    blocks::write_state(&mut out, schedule::subkey(bytes));
+    blocks::write_state(&mut out, schedule::subkey(&bytes));
     Given {
         outcome: Outcome::Done,
         subkey: out,

@@ -28,8 +28,7 @@ pub fn stage_at(key: &[u8], n: usize) -> Holder
     let mut s: usize = 0;
     while s < n {
         s += 1;
-        let next = schedule::next_stage(t, s, k);
-        k = next;
+        schedule::next_stage(t, s, &mut k);
     }
     Holder {
         length: key.len(),

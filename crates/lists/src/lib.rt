@@ -29,14 +29,13 @@ fn fill(key: &[u8], rounds: usize, out: &mut [u8])
 {
     let t = key.len() / 6;
     let mut k = schedule::stage_of_key(key);
-    write_state(out, schedule::subkey(k));
+    write_state(out, schedule::subkey(&k));
     let mut s: usize = 0;
     while s < rounds {
         s += 1;
-        let next = schedule::next_stage(t, s, k);
-        k = next;
+        schedule::next_stage(t, s, &mut k);
         let at = 12 * s;
-        write_state(&mut out[at..], schedule::subkey(next));
+        write_state(&mut out[at..], schedule::subkey(&k));
     }
 }
 
@@ -58,14 +57,13 @@ fn fill_turned(key: &[u8], rounds: usize, out: &mut [u8])
     let t = key.len() / 6;
     let mut k = schedule::stage_of_key(key);
     let last = 12 * rounds;
-    write_state(&mut out[last..], schedule::subkey(k));
+    write_state(&mut out[last..], schedule::subkey(&k));
     let mut s: usize = 0;
     while s < rounds {
         s += 1;
-        let next = schedule::next_stage(t, s, k);
-        k = next;
+        schedule::next_stage(t, s, &mut k);
         let at = 12 * (rounds - s);
-        let sub = turn_subkey(schedule::subkey(next), s, rounds);
+        let sub = turn_subkey(schedule::subkey(&k), s, rounds);
         write_state(&mut out[at..], sub);
     }
 }

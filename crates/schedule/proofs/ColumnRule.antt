@@ -1,6 +1,6 @@
--- The column rule: what it makes of a stage, that c and c + 1 undo each other, and what the code makes of one column.
+-- The column rule: what it makes of a stage, and that c and c + 1 undo each other.
 use mathlib.Core.Path.{_≡_, sym, ap, ap₂, _∙_, subst}
-use mathlib.Core.List.{List, [], _∷_}
+use mathlib.Core.List.{List}
 use Prim.Native.Nat.{ℕ, _<_}
 use lib.Dec.{T, lit<}
 use lib.Bits.{bitXor}
@@ -8,7 +8,7 @@ use Rattle.field.specs.Field.{_⊕_, times, product, reduced, cubeRoot}
 use Rattle.field.proofs.Addition.{assoc, comm, left-comm, cancel, self, zero-right, byte}
 use Rattle.field.proofs.Linear.{Linear, same, agree-bytes, times-left, times-right}
 use Rattle.field.proofs.Multiplication.{times-byte, one-times}
-use Rattle.schedule.specs.Columns.{cell, columns, fill, IsStage, filled, ruleByte, columnRule}
+use Rattle.schedule.specs.Columns.{cell, fill, IsStage, filled, ruleByte, columnRule}
 use Rattle.schedule.proofs.Columns.{fill-path, cell-fill}
 
 pub rule-fill : (m n : ℕ) (f : ℕ → ℕ → ℕ) → columnRule m n (fill n f) ≡ fill n (λ i j. ruleByte m (f i j) (f 0 j) (f 1 j) (f 2 j))
@@ -64,11 +64,6 @@ rule-undone m w n u (filled f h) =
     ap (columnRule w n) (rule-fill m n f) ∙ rule-fill w n (λ i j. ruleByte m (f i j) (f 0 j) (f 1 j) (f 2 j))
     ∙ fill-path n _ f (λ i j hi hj.
     ruleByte-undone m w u (f i j) (f 0 j) (f 1 j) (f 2 j) (byte (f 0 j) (f 1 j ⊕ f 2 j) (h 0 j) (byte (f 1 j) (f 2 j) (h 1 j) (h 2 j))))
-
--- ---- the rule on one column, with s times the sum at hand
-pub one-column : (m x y z s : ℕ) → s ≡ times m (x ⊕ (y ⊕ z)) → (x ⊕ s) ∷ (y ⊕ s) ∷ (z ⊕ s) ∷ [] ≡ columnRule m 1 (x ∷ y ∷ z ∷ [])
-unfolding columnRule columns
-one-column m x y z s e = ap (λ (s : ℕ). (x ⊕ s) ∷ (y ⊕ s) ∷ (z ⊕ s) ∷ []) e
 
 -- c + 1 times a byte
 pub times-inverse : (s : ℕ) → s < 256 → times cubeRoot s ⊕ s ≡ times (cubeRoot ⊕ 1) s

@@ -24,6 +24,12 @@ previous-around n j h z = sym (ap (λ (x : ℕ). x % n) e ∙ mod-eq-of-lt (omeg
     e : j + (n - 1) ≡ n - 1
     e = omega arith
 
+pub previous-next : (n j : ℕ) → j < n → j ≡ previous n (j + 1)
+previous-next n j h = sym (ap (λ (x : ℕ). x % n) e ∙ add-mod-right j n ∙ mod-eq-of-lt h)
+  where
+    e : j + 1 + (n - 1) ≡ j + n
+    e = omega arith
+
 -- t is 2, 3 or 4
 pub sizes {ℓ} : (P : ℕ → Type ℓ) → P 2 → P 3 → P 4 → (t : ℕ) → Sized t → P t
 sizes P a b c zero h = let z : ⊥ = omega (arith, h .least) in absurd z

@@ -2,14 +2,13 @@
 use mathlib.Core.Path.{_≡_, sym, ap}
 use mathlib.Core.List.{List}
 use Prim.Native.Nat.{ℕ, zero, suc, _+_, _-_, _*_, _<_}
-use lib.ListN.{length}
 use lib.Dec.{lit<}
 use Rattle.sbox.specs.Sbox.{sbox}
 use Rattle.sbox.proofs.Laws.{sbox-small}
 use lib.Bits.{bitXor}
 use Rattle.field.specs.Field.{_⊕_}
 use Rattle.schedule.specs.Columns.{cell, fill, IsStage, filled, plus}
-use Rattle.schedule.proofs.Columns.{fill-path, cell-fill, length-columns}
+use Rattle.schedule.proofs.Columns.{fill-path, cell-fill}
 use Rattle.schedule.specs.Stages.{byRow, constant, stage, zeros, closingSum}
 use Rattle.schedule.proofs.Steps.{step-stage, plus-stage}
 
@@ -29,10 +28,6 @@ plus-constant t s k =
     let f : ℕ → ℕ → ℕ = λ i j. byRow i (sbox (2 * t * (s - 1) + j)) 0 0 in
     fill-path (2 * t) (λ i j. cell k i j ⊕ f i j) (λ i j. cell k i j ⊕ cell (fill (2 * t) f) i j)
     (λ i j hi hj. ap (bitXor (cell k i j)) (sym (cell-fill (2 * t) f i j hi hj)))
-
-pub length-plus : (n : ℕ) (a b : List ℕ) → length (plus n a b) ≡ 3 * n
-unfolding plus
-length-plus n a b = length-columns (λ i j. cell a i j ⊕ cell b i j) 0 n
 
 pub zeros-stage : (n : ℕ) → IsStage n (zeros n)
 unfolding zeros

@@ -1,8 +1,11 @@
 // A stage after another, and a stage's subkey. A stage of 2t columns is kept in 24 bytes, with zeros past it.
 
 ghost use mathlib.Core.Path.{_≡_};
-ghost use Prim.Native.Nat.{_*_, _≤_, _<_};
-ghost use lib.ListN.{length};
+ghost use mathlib.Core.Bool.{cond};
+ghost use mathlib.Core.List.{_++_};
+ghost use Prim.Native.Nat.{_+_, _*_, _≤_, _<_};
+ghost use lib.Dec.{ltb};
+ghost use lib.ListN.{length, drop};
 ghost use Rattle.schedule.specs.Columns.{cell, plus, padded, Place};
 ghost use Rattle.schedule.specs.Stages.{next, previous, linearStep, constant, subkeyOf};
 ghost use Rattle.sizes.specs.Sizes.{Sized};
@@ -32,62 +35,68 @@ pub fn byte_at(k: &[u8; 24], i: usize, j: usize) -> u8
     k[i + 3 * j]
 }
 
-// The linear step of a stage of 2t columns.
-pub fn linear_step(t: usize, k: [u8; 24]) -> [u8; 24]
-    requires { ⌜ Sized t ⌝ }
-    ensures { λ r. ⌜ r ≡ padded (linearStep (2 * t) k) ⌝ }
+// Row 1 of the column after j, from a stage whose columns before j are written already; first is row 1 of the first column as it was.
+fn row_one_after(n: usize, j: usize, k: &[u8; 24], first: u8) -> u8
+    requires { ⌜ (j < n) × (n ≤ 8) ⌝ }
+    ensures { λ r. ⌜ r ≡ cond (ltb (j + 1) n) (cell (now (k .entry)) 1 (j + 1)) first ⌝ }
 {
-    let n = 2 * t;
-    let mut out = [0u8; 24];
-    let mut j: usize = 0;
-    while j < n {
-        let x = byte_at(&k, 0, j);
-        let y = byte_at(&k, 1, next_column(n, j));
-        let z = byte_at(&k, 2, previous_column(n, j));
-        let m = column_term(x, y, z);
-        out[3 * j] = x ^ m;
-        out[3 * j + 1] = y ^ m;
-        out[3 * j + 2] = z ^ m;
-        j += 1;
+    if j + 1 < n {
+        return k[3 * j + 4];
     }
-    out
+    first
 }
 
-// A stage plus constant s, which has zeros in rows 1 and 2.
-pub fn add_constant(t: usize, s: usize, k: [u8; 24]) -> [u8; 24]
-    requires { ⌜ Sized t × ((0 < s) × (s < 6 * t)) ⌝ }
-    ensures { λ r. ⌜ r ≡ padded (plus (2 * t) k (constant t s)) ⌝ }
+// The linear step of a stage of 2t columns, in place: what is read after it was written is kept aside.
+pub fn linear_step(t: usize, k: &mut [u8; 24])
+    requires { ⌜ Sized t × (length (now k) ≡ 24) ⌝ }
+    ensures { λ _. ⌜ now (k .exit) ≡ linearStep (2 * t) (now (k .entry)) ++ drop (6 * t) (now (k .entry)) ⌝ }
+{
+    let n = 2 * t;
+    let first = k[1];
+    let mut before = k[6 * t - 1];
+    let mut j: usize = 0;
+    while j < n {
+        let x = k[3 * j];
+        let y = row_one_after(n, j, k, first);
+        let z = before;
+        let m = column_term(x, y, z);
+        before = k[3 * j + 2];
+        k[3 * j] = x ^ m;
+        k[3 * j + 1] = y ^ m;
+        k[3 * j + 2] = z ^ m;
+        j += 1;
+    }
+}
+
+// Constant s, which has zeros in rows 1 and 2, added to a stage in place.
+pub fn add_constant(t: usize, s: usize, k: &mut [u8; 24])
+    requires { ⌜ Sized t × (((0 < s) × (s < 6 * t)) × (length (now k) ≡ 24)) ⌝ }
+    ensures { λ _. ⌜ now (k .exit) ≡ plus (2 * t) (now (k .entry)) (constant t s) ++ drop (6 * t) (now (k .entry)) ⌝ }
 {
     let n = 2 * t;
     let first = n * (s - 1);
     let p = sbox::P;
     let q = sbox::Q;
-    let mut out = [0u8; 24];
     let mut j: usize = 0;
     while j < n {
-        let x = byte_at(&k, 0, j);
-        let y = byte_at(&k, 1, j);
-        let z = byte_at(&k, 2, j);
-        out[3 * j] = x ^ sbox::substitute_with(&p, &q, ((first + j) % 256) as u8);
-        out[3 * j + 1] = y;
-        out[3 * j + 2] = z;
+        let x = k[3 * j];
+        k[3 * j] = x ^ sbox::substitute_with(&p, &q, ((first + j) % 256) as u8);
         j += 1;
     }
-    out
 }
 
-// Stage s from stage s - 1.
-pub fn next_stage(t: usize, s: usize, k: [u8; 24]) -> [u8; 24]
-    requires { ⌜ Sized t × ((0 < s) × (s < 6 * t)) ⌝ }
-    ensures { λ r. ⌜ r ≡ padded (linearStep (2 * t) (plus (2 * t) k (constant t s))) ⌝ }
+// Stage s from stage s - 1, in place.
+pub fn next_stage(t: usize, s: usize, k: &mut [u8; 24])
+    requires { ⌜ Sized t × (((0 < s) × (s < 6 * t)) × (length (now k) ≡ 24)) ⌝ }
+    ensures { λ _. ⌜ now (k .exit) ≡ linearStep (2 * t) (plus (2 * t) (now (k .entry)) (constant t s)) ++ drop (6 * t) (now (k .entry)) ⌝ }
 {
-    let sum = add_constant(t, s, k);
-    linear_step(t, sum)
+    add_constant(t, s, k);
+    linear_step(t, k);
 }
 
 // A stage's subkey: its first four columns, with the S-box on row 0.
-pub fn subkey(k: [u8; 24]) -> [[u8; 3]; 4]
-    ensures { λ r. ⌜ r ≡ subkeyOf k ⌝ }
+pub fn subkey(k: &[u8; 24]) -> [[u8; 3]; 4]
+    ensures { λ r. ⌜ r ≡ subkeyOf (now (k .entry)) ⌝ }
 {
     let p = sbox::P;
     let q = sbox::Q;

@@ -3,37 +3,47 @@ use mathlib.Core.Path.{_≡_, refl, sym, ap, _∙_}
 use mathlib.Core.List.{List}
 use Prim.Native.Nat.{ℕ, _*_}
 use native.Mathlib.Omega.{arith}
+use lib.ListN.{length}
 use Rattle.schedule.specs.Columns.{plus, padded}
-use Rattle.schedule.specs.Stages.{inverseStep, moved}
+use Rattle.schedule.specs.Stages.{inverseStep, constant, moved}
 use Rattle.schedule.proofs.Columns.{length-columns}
-use Rattle.schedule.proofs.Padded.{padded-agrees, plus-agrees}
+use Rattle.schedule.proofs.Padded.{length-padded, padded-agrees, plus-agrees, plus-held}
 use Rattle.cycle.specs.Cycle.{stageBefore}
 use Rattle.cycle.proofs.Addends.{addend-to, addend-to-first}
 use borrow.Author.Needs.{needs}
 use Rattle.cycle.proofs.stage_before.Statement.{statement}
 use Rattle.cycle.proofs.stage_before.Tie as tie
 
+length-inverse : (n : ℕ) (k : List ℕ) → length (inverseStep n k) ≡ 3 * n
+unfolding inverseStep moved
+length-inverse n k = length-columns _ 0 n
+
 -- a sum over the inverse step in 24 bytes
 summed : (t : ℕ) (k x a : List ℕ) → x ≡ padded (inverseStep (2 * t) k) → padded (plus (2 * t) x a) ≡ padded (plus (2 * t) (inverseStep (2 * t) k) a)
-unfolding inverseStep moved
 summed t k x a e =
     let y = inverseStep (2 * t) k in
     ap (λ (x : List ℕ). padded (plus (2 * t) x a)) e
-    ∙ ap padded (plus-agrees (2 * t) (padded y) a y a (padded-agrees (2 * t) y (length-columns _ 0 (2 * t))) (λ i j hi hj. refl))
+    ∙ ap padded (plus-agrees (2 * t) (padded y) a y a (padded-agrees (2 * t) y (length-inverse (2 * t) k)) (λ i j hi hj. refl))
 
 inverse-step-requires : tie.Need-inverse-step-requires
 inverse-step-requires c κs = search needs
 
 add-constant-requires : tie.Need-add-constant-requires
-add-constant-requires c κs = search needs
+add-constant-requires c κs =
+    let p = c .before .before .before in
+    let t = p .args .t in
+    let x = inverseStep (2 * t) (p .args .k) in
+    (p .pre .0, ((omega arith, p .pre .1), ap length (c .before .before .inverse-step .ensures) ∙ length-padded x (omega (arith, p .pre .0 .most, length-inverse (2 * t) (p .args .k)))))
 
 returns : tie.Need-returns
 unfolding stageBefore
 returns c =
-    let t = c .before .before .before .args .t in
-    let s = c .before .before .before .args .s in
-    let k = c .before .before .before .args .k in
-    c .add-constant .ensures ∙ summed t k _ _ (c .before .before .inverse-step .ensures)
+    let p = c .before .before .before .before in
+    let t = p .args .t in
+    let s = p .args .s in
+    let k = p .args .k in
+    c .add-constant .ensures
+    ∙ plus-held t (inverseStep (2 * t) k) _ (c .before .before .before .inverse-step .ensures) (length-inverse (2 * t) k) (constant t s)
     ∙ ap (λ (a : List ℕ). padded (plus (2 * t) (inverseStep (2 * t) k) a)) (sym (addend-to t s (omega arith) (omega arith)))
 
 add-closing-requires : tie.Need-add-closing-requires

@@ -9,7 +9,7 @@ use Rattle.blocks.specs.Blocks.{bytesOf}
 use Rattle.schedule.specs.Columns.{padded}
 use Rattle.sizes.specs.Sizes.{sizeOf}
 use Rattle.schedule.specs.Stages.{stage}
-use Rattle.schedule.proofs.Keys.{a-key, advanced}
+use Rattle.schedule.proofs.Keys.{a-key, held-length, advanced}
 use Rattle.lists.proofs.Keys.{selected}
 use Rattle.lists.proofs.Filled.{front, front-first, front-next, front-whole, part-written}
 use borrow.Author.Needs.{needs}
@@ -35,10 +35,10 @@ write-state-requires c κs = search needs
 loop-holds : tie.Need-loop-holds Inv-loop μ-loop
 unfolding stage
 loop-holds c =
-    let key = now (c .before .before .before .before .before .before .before .before .args .key) in
-    let out = now (c .before .before .before .before .before .before .before .before .args .out) in
-    let h = c .before .before .before .before .before .before .before .before .pre .key in
-    let k = c .before .before .before .before .before .stage-of-key in (
+    let key = now (c .before .before .before .before .before .before .before .before .before .args .key) in
+    let out = now (c .before .before .before .before .before .before .before .before .before .args .out) in
+    let h = c .before .before .before .before .before .before .before .before .before .pre .key in
+    let k = c .before .before .before .before .before .before .stage-of-key in (
       (omega arith, refl),
       (
         k .ensures,
@@ -51,8 +51,9 @@ add-s c = search needs
 
 next-stage-requires : tie.Need-next-stage-requires Inv-loop μ-loop
 next-stage-requires c κs =
-    let k = a-key (length (now (c .before .before .before .before .before .before .before .before .before .before .args .key))) (c .before .before .before .before .before .before .before .before .before .before .pre .key) in
-    (k .sized, (omega arith, omega (arith, k .is, c .before .before .before .before .before .before .before .before .before .before .pre .most)))
+    let k = a-key (length (now (c .before .before .before .before .before .before .before .before .before .before .before .before .args .key))) (c .before .before .before .before .before .before .before .before .before .before .before .before .pre .key) in
+    let l = c .before .before .loop in
+    (k .sized, ((omega arith, omega (arith, k .is, c .before .before .before .before .before .before .before .before .before .before .before .before .pre .most)), held-length (now (c .before .before .before .before .before .before .before .before .before .before .before .before .args .key)) (c .before .before .before .before .before .before .before .before .before .before .before .before .pre .key) (l .s) (l .k) (l .inv .1 .0)))
 
 mul-at : tie.Need-mul-at Inv-loop μ-loop
 mul-at c = search needs
@@ -77,18 +78,18 @@ loop-less c = search needs
 
 loop-again : tie.Need-loop-again Inv-loop μ-loop
 loop-again c =
-    let key = now (c .before .before .before .before .before .before .before .before .before .before .before .before .before .before .before .before .args .key) in
-    let h = c .before .before .before .before .before .before .before .before .before .before .before .before .before .before .before .before .pre .key in
-    let s = c .before .before .before .before .before .before .before .loop .s in
-    let out = c .before .before .before .before .before .before .before .loop .out in
-    let inv = c .before .before .before .before .before .before .before .loop .inv in
-    let next = c .before .before .before .before .before .next-stage in
-    let ek = advanced key h s (c .before .before .before .before .before .before .before .loop .k) (next .result) (inv .1 .0) (next .ensures) in (
+    let key = now (c .before .before .before .before .before .before .before .before .before .before .before .before .before .before .before .before .before .before .before .args .key) in
+    let h = c .before .before .before .before .before .before .before .before .before .before .before .before .before .before .before .before .before .before .before .pre .key in
+    let s = c .before .before .before .before .before .before .before .before .before .loop .s in
+    let out = c .before .before .before .before .before .before .before .before .before .loop .out in
+    let inv = c .before .before .before .before .before .before .before .before .before .loop .inv in
+    let next = c .before .before .before .before .before .before .next-stage in
+    let ek = advanced key h s (c .before .before .before .before .before .before .before .before .before .loop .k) (next .last .1 .1 .0) (inv .1 .0) (next .ensures) in (
       (omega arith, same-len-mid (12 * (s + 1)) (length out - 12 * (s + 1)) out (c .before .before .write-state2 .last .0) (c .before .before .write-state2 .kept .0) ∙ inv .0 .1),
       (
         ek,
         part-written (12 * (s + 1)) out (bytesOf (c .before .before .before .subkey2 .result)) _ (omega arith) (c .before .before .write-state2 .ensures)
-            ∙ front-next key _ out s _ (selected key h (s + 1) (next .result) _ ek (c .before .before .before .subkey2 .ensures)) (inv .1 .1),
+            ∙ front-next key _ out s _ (selected key h (s + 1) (next .last .1 .1 .0) _ ek (c .before .before .before .subkey2 .ensures)) (inv .1 .1),
       ),
     )
 
@@ -98,7 +99,7 @@ same-length c = search needs
 returns : tie.Need-returns Inv-loop μ-loop
 unfolding front
 returns c =
-    let a = c .before .before .before .before .before .before .before .before .before .before .args in
+    let a = c .before .before .before .before .before .before .before .before .before .before .before .args in
     let key = now (a .key) in
     let e : c .before .loop .s ≡ a .rounds = omega arith in
     c .before .loop .inv .1 .1 ∙ ap (λ (s : ℕ). front key s (c .before .before .before .before .write-state .last .0)) e ∙ front-whole key (now (a .out)) _ (c .before .before .before .before .before .subkey .result) (a .rounds) (c .before .before .before .before .write-state .ensures)

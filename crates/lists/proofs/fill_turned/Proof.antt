@@ -16,7 +16,7 @@ use Rattle.lists.specs.Lists.{subkeys}
 use Rattle.schedule.specs.Columns.{padded}
 use Rattle.sizes.specs.Sizes.{sizeOf}
 use Rattle.schedule.specs.Stages.{stage}
-use Rattle.schedule.proofs.Keys.{a-key, advanced}
+use Rattle.schedule.proofs.Keys.{a-key, held-length, advanced}
 use Rattle.lists.proofs.Keys.{selected}
 use Rattle.lists.proofs.Filled.{part-written}
 use Rattle.lists.proofs.Turned.{back, first-drop, back-first, back-next, back-whole}
@@ -55,17 +55,17 @@ write-state-requires c κs = search needs
 loop-holds : tie.Need-loop-holds Inv-loop μ-loop
 unfolding stage
 loop-holds c =
-    let key = now (c .before .before .before .before .before .before .before .before .args .key) in
-    let R = c .before .before .before .before .before .before .before .before .args .rounds in
-    let out = now (c .before .before .before .before .before .before .before .before .args .out) in
-    let room = c .before .before .before .before .before .before .before .before .pre .fits in
-    let k = c .before .before .before .before .before .stage-of-key in
+    let key = now (c .before .before .before .before .before .before .before .before .before .args .key) in
+    let R = c .before .before .before .before .before .before .before .before .before .args .rounds in
+    let out = now (c .before .before .before .before .before .before .before .before .before .args .out) in
+    let room = c .before .before .before .before .before .before .before .before .before .pre .fits in
+    let k = c .before .before .before .before .before .before .stage-of-key in
     let sub = c .before .before .before .subkey in
     let p = part-written (12 * R) out (bytesOf (sub .result)) (c .before .before .write-state .last .0) (omega arith) (c .before .before .write-state .ensures) in (
       (omega arith, refl),
       (
         k .ensures,
-        p ∙ back-first key R out (sub .result) room (selected key (c .before .before .before .before .before .before .before .before .pre .key) 0 (k .result) _ (k .ensures) (sub .ensures)) ∙ ap (back key R 0) (sym p),
+        p ∙ back-first key R out (sub .result) room (selected key (c .before .before .before .before .before .before .before .before .before .pre .key) 0 (k .result) _ (k .ensures) (sub .ensures)) ∙ ap (back key R 0) (sym p),
       ),
     )
 
@@ -74,8 +74,9 @@ add-s c = search needs
 
 next-stage-requires : tie.Need-next-stage-requires Inv-loop μ-loop
 next-stage-requires c κs =
-    let k = a-key (length (now (c .before .before .before .before .before .before .before .before .before .before .args .key))) (c .before .before .before .before .before .before .before .before .before .before .pre .key) in
-    (k .sized, (omega arith, omega (arith, k .is, c .before .before .before .before .before .before .before .before .before .before .pre .most)))
+    let k = a-key (length (now (c .before .before .before .before .before .before .before .before .before .before .before .before .args .key))) (c .before .before .before .before .before .before .before .before .before .before .before .before .pre .key) in
+    let l = c .before .before .loop in
+    (k .sized, ((omega arith, omega (arith, k .is, c .before .before .before .before .before .before .before .before .before .before .before .before .pre .most)), held-length (now (c .before .before .before .before .before .before .before .before .before .before .before .before .args .key)) (c .before .before .before .before .before .before .before .before .before .before .before .before .pre .key) (l .s) (l .k) (l .inv .1 .0)))
 
 sub-at : tie.Need-sub-at Inv-loop μ-loop
 sub-at c = search needs
@@ -106,20 +107,20 @@ loop-less c = search needs
 
 loop-again : tie.Need-loop-again Inv-loop μ-loop
 loop-again c =
-    let key = now (c .before .before .before .before .before .before .before .before .before .before .before .before .before .before .before .before .before .args .key) in
-    let R = c .before .before .before .before .before .before .before .before .before .before .before .before .before .before .before .before .before .args .rounds in
-    let out₁ = now (c .before .before .before .before .before .before .before .before .before .before .before .before .before .before .before .before .before .args .out) in
-    let room = c .before .before .before .before .before .before .before .before .before .before .before .before .before .before .before .before .before .pre .fits in
-    let h = c .before .before .before .before .before .before .before .before .before .before .before .before .before .before .before .before .before .pre .key in
-    let s = c .before .before .before .before .before .before .before .before .loop .s in
-    let out = c .before .before .before .before .before .before .before .before .loop .out in
-    let inv = c .before .before .before .before .before .before .before .before .loop .inv in
-    let next = c .before .before .before .before .before .before .next-stage in
-    let ek = advanced key h s (c .before .before .before .before .before .before .before .before .loop .k) (next .result) (inv .1 .0) (next .ensures) in
+    let key = now (c .before .before .before .before .before .before .before .before .before .before .before .before .before .before .before .before .before .before .before .before .args .key) in
+    let R = c .before .before .before .before .before .before .before .before .before .before .before .before .before .before .before .before .before .before .before .before .args .rounds in
+    let out₁ = now (c .before .before .before .before .before .before .before .before .before .before .before .before .before .before .before .before .before .before .before .before .args .out) in
+    let room = c .before .before .before .before .before .before .before .before .before .before .before .before .before .before .before .before .before .before .before .before .pre .fits in
+    let h = c .before .before .before .before .before .before .before .before .before .before .before .before .before .before .before .before .before .before .before .before .pre .key in
+    let s = c .before .before .before .before .before .before .before .before .before .before .loop .s in
+    let out = c .before .before .before .before .before .before .before .before .before .before .loop .out in
+    let inv = c .before .before .before .before .before .before .before .before .before .before .loop .inv in
+    let next = c .before .before .before .before .before .before .before .next-stage in
+    let ek = advanced key h s (c .before .before .before .before .before .before .before .before .before .before .loop .k) (next .last .1 .1 .0) (inv .1 .0) (next .ensures) in
     let sub = c .before .before .before .before .turn-subkey in
-    let es = selected key h (s + 1) (next .result) _ ek (c .before .before .before .before .before .subkey2 .ensures) in
+    let es = selected key h (s + 1) (next .last .1 .1 .0) _ ek (c .before .before .before .before .before .subkey2 .ensures) in
     let at = 12 * (R - (s + 1)) in
-    let l₀ = same-len-mid (12 * R) (length out₁ - 12 * R) out₁ (c .before .before .before .before .before .before .before .before .before .before .before .write-state .last .0) (c .before .before .before .before .before .before .before .before .before .before .before .write-state .kept .0) in (
+    let l₀ = same-len-mid (12 * R) (length out₁ - 12 * R) out₁ (c .before .before .before .before .before .before .before .before .before .before .before .before .before .write-state .last .0) (c .before .before .before .before .before .before .before .before .before .before .before .before .before .write-state .kept .0) in (
       (omega arith, same-len-mid at (length out - at) out (c .before .before .write-state2 .last .0) (c .before .before .write-state2 .kept .0) ∙ inv .0 .1),
       (
         ek,
@@ -133,7 +134,7 @@ same-length c = search needs
 
 returns : tie.Need-returns Inv-loop μ-loop
 returns c =
-    let a = c .before .before .before .before .before .before .before .before .before .before .args in
+    let a = c .before .before .before .before .before .before .before .before .before .before .before .args in
     let key = now (a .key) in
     let R = a .rounds in
     let out = now (a .out) in
@@ -143,7 +144,7 @@ returns c =
     let p = part-written (12 * R) out (bytesOf (sub .result)) (c .before .before .before .before .write-state .last .0) (omega arith) (c .before .before .before .before .write-state .ensures) in
     c .before .loop .inv .1 .1 ∙ ap (λ (s : ℕ). back key R s out₀) e ∙ back-whole key R out₀
     ∙ ap (λ (x : List ℕ). listBytes (turned (subkeys key R)) ++ drop (12 * (R + 1)) x) p
-    ∙ ap (λ (x : List ℕ). listBytes (turned (subkeys key R)) ++ x) (first-drop key R out (sub .result) (c .before .before .before .before .before .before .before .before .before .before .pre .fits))
+    ∙ ap (λ (x : List ℕ). listBytes (turned (subkeys key R)) ++ x) (first-drop key R out (sub .result) (c .before .before .before .before .before .before .before .before .before .before .before .pre .fits))
 
 pub fill-turned-spec : {M : Type 1} → statement M
 fill-turned-spec =

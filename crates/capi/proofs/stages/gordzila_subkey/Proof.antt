@@ -52,12 +52,12 @@ same-length c = search needs
 returns-3 : tie.Need-returns-3
 unfolding subkeyCallOutput
 returns-3 c =
-    let key = now (c .before .before .before .before .before .before .before .before .before .before .before .before .before .args .key) in
-    let n = c .before .before .before .before .before .before .before .before .before .before .before .before .before .args .n in
-    let out = now (c .before .before .before .before .before .before .before .before .before .before .before .before .before .args .out) in
-    let z = (sym (c .before .before .before .before .before .before .before .before .before .outcome-number .ensures ∙ c .before .before .before .before .before .before .before .before .before .before .straight .ensures .0) ∙ c .before .before .before .before .before .before .before .before .if1 .left) in
+    let key = now (c .before .before .before .before .before .before .before .before .before .before .before .before .before .before .args .key) in
+    let n = c .before .before .before .before .before .before .before .before .before .before .before .before .before .before .args .n in
+    let out = now (c .before .before .before .before .before .before .before .before .before .before .before .before .before .before .args .out) in
+    let z = (sym (c .before .before .before .before .before .before .before .before .before .before .outcome-number .ensures ∙ c .before .before .before .before .before .before .before .before .before .before .before .straight .ensures .0) ∙ c .before .before .before .before .before .before .before .before .before .if1 .left) in
     stage-done 12 key n out (bytesOf (subkeyOf (stage (sizeOf (length key)) key n))) z (omega arith) _
-    (c .before .before .write-state .ensures ∙ ap (λ (k : State). bytesOf k ++ drop 12 out) (subkey-given key n z (c .before .before .before .before .before .before .before .before .before .before .straight .result .holder) (c .before .before .before .before .before .before .before .before .before .before .straight .ensures .1) _ (c .before .before .before .subkey .ensures)))
+    (c .before .before .write-state .ensures ∙ ap (λ (k : State). bytesOf k ++ drop 12 out) (subkey-given key n z (c .before .before .before .before .before .before .before .before .before .before .before .straight .result .holder) (c .before .before .before .before .before .before .before .before .before .before .before .straight .ensures .1) _ (c .before .before .before .subkey .ensures)))
 
 pub gordzila-subkey-spec : {M : Type 1} → statement M
 gordzila-subkey-spec =

@@ -34,8 +34,8 @@ write-state-requires c κs = search needs
 returns-2 : tie.Need-returns-2
 unfolding subkeyHeld
 returns-2 c =
-    let h = c .before .before .before .before .before .before .before .args .h in
-    let e = first-passes _ [] (sym (c .before .before .before .before .before .before .is-whole .ensures) ∙ not-false _ (c .before .before .before .before .before .if1 .left)) ∙ none-given [] tt in
+    let h = c .before .before .before .before .before .before .before .before .args .h in
+    let e = first-passes _ [] (sym (c .before .before .before .before .before .before .before .is-whole .ensures) ∙ not-false _ (c .before .before .before .before .before .before .if1 .left)) ∙ none-given [] tt in
     (sym e, c .before .write-state .ensures ∙ ap bytesOf (c .before .before .subkey .ensures) ∙ answer-done (holderTries h) (bytesOf (subkeyOf (h .bytes))) noSubkey e)
 
 pub subkey-spec : {M : Type 1} → statement M

@@ -7,7 +7,7 @@ use lib.ListN.{length}
 use Rattle.schedule.specs.Columns.{padded}
 use Rattle.sizes.specs.Sizes.{sizeOf}
 use Rattle.schedule.specs.Stages.{stage}
-use Rattle.schedule.proofs.Keys.{a-key, advanced}
+use Rattle.schedule.proofs.Keys.{a-key, held-length, advanced}
 use borrow.Author.Needs.{needs}
 use Rattle.holder.proofs.stages.stage_at.Statement.{statement}
 use Rattle.holder.proofs.stages.stage_at.Tie as tie
@@ -30,17 +30,18 @@ add-s c = search needs
 
 next-stage-requires : tie.Need-next-stage-requires Inv-loop μ-loop
 next-stage-requires c κs =
-    let p = c .before .before .before .before .pre in
-    let k = a-key (length (now (c .before .before .before .before .args .key))) (p .0) in
-    (k .sized, (omega arith, omega (arith, k .is)))
+    let p = c .before .before .before .before .before in
+    let l = c .before .before .loop in
+    let k = a-key (length (now (p .args .key))) (p .pre .0) in
+    (k .sized, ((omega arith, omega (arith, k .is)), held-length (now (p .args .key)) (p .pre .0) (l .s) (l .k) (l .inv .1)))
 
 loop-less : tie.Need-loop-less Inv-loop μ-loop
 loop-less c = search needs
 
 loop-again : tie.Need-loop-again Inv-loop μ-loop
 loop-again c =
-    let p = c .before .before .before .before .before in
-    let l = c .before .before .loop in
+    let p = c .before .before .before .before .before .before in
+    let l = c .before .before .before .loop in
     (omega arith, advanced (now (p .args .key)) (p .pre .0) (l .s) (l .k) _ (l .inv .1) (c .next-stage .ensures))
 
 returns : tie.Need-returns Inv-loop μ-loop

@@ -1,69 +1,91 @@
--- `schedule::stage::linear_step` meets its contract. The invariant says what is done so far.
-use mathlib.Core.Path.{_≡_, refl, sym, ap, _∙_}
-use Prim.Native.Nat.{ℕ, _-_, _*_, _≤_}
+-- `schedule::stage::linear_step` meets its contract.
+use mathlib.Core.Path.{_≡_, refl, sym, ap, ap₂, _∙_}
+use mathlib.Core.List.{_++_}
+use Prim.Native.Nat.{ℕ, _+_, _-_, _*_, _≤_, _<_}
 use native.Mathlib.Omega.{arith}
-use Rattle.field.specs.Field.{cubeRoot}
-use Rattle.schedule.specs.Columns.{cell, columns, fill, padded}
-use Rattle.schedule.specs.Stages.{next, previous, byRow}
-use Rattle.schedule.proofs.Written.{stepped, step-once, ruled-column}
+use denote.Ref.{now}
+use lib.ListN.{getD, drop}
+use Rattle.schedule.specs.Columns.{cell, columns}
+use Rattle.schedule.specs.Stages.{previous}
+use Rattle.schedule.proofs.Places.{previous-around, previous-next}
+use Rattle.schedule.proofs.Written.{stepped, upto, read-unwritten, read-after, column-stepped, step-once}
 use borrow.Author.Needs.{needs}
 use Rattle.schedule.proofs.stage.linear_step.Statement.{statement}
 use Rattle.schedule.proofs.stage.linear_step.Tie as tie
 
 abbrev Inv-loop : tie.InvT-loop
-Inv-loop t k n out₀ j₀ out j = (n ≡ 2 * t) × ((j ≤ n) × (out ≡ padded (fill j (stepped (2 * t) k))))
+Inv-loop t k₀ n first before₀ j₀ k before j =
+    ((n ≡ 2 * t) × ((first ≡ cell k₀ 1 0) × (before ≡ cell k₀ 2 (previous (2 * t) j)))) × ((j ≤ n) × (k ≡ upto (stepped (2 * t) k₀) j k₀))
 
 abbrev μ-loop : tie.MeasureT-loop
-μ-loop t k n out₀ j₀ out j = n - j
+μ-loop t k₀ n first before₀ j₀ k before j = n - j
 
 mul-n : tie.Need-mul-n Inv-loop μ-loop
 mul-n c = search needs
 
+element-copy-out-first : tie.Need-element-copy-out-first Inv-loop μ-loop
+element-copy-out-first c = search needs
+
+mul-before : tie.Need-mul-before Inv-loop μ-loop
+mul-before c = search needs
+
+sub-before : tie.Need-sub-before Inv-loop μ-loop
+sub-before c = search needs
+
+element-copy-out-before : tie.Need-element-copy-out-before Inv-loop μ-loop
+element-copy-out-before c = search needs
+
 loop-holds : tie.Need-loop-holds Inv-loop μ-loop
-unfolding padded columns
-loop-holds c = (refl, (omega arith, refl))
+unfolding columns
+loop-holds c =
+    let a = c .before .before .args in
+    let e : 6 * a .t - 1 ≡ 2 + 3 * previous (2 * a .t) 0 = omega (arith, previous-around (2 * a .t) 0 (omega (arith, c .before .before .pre .0 .least)) (omega arith)) in
+    ((refl, (refl, ap (λ (p : ℕ). getD (now (a .k)) p 0) e)), (omega arith, refl))
 
-byte-at-requires : tie.Need-byte-at-requires Inv-loop μ-loop
-byte-at-requires c κs = search needs
+mul-x : tie.Need-mul-x Inv-loop μ-loop
+mul-x c = search needs
 
-next-column-requires : tie.Need-next-column-requires Inv-loop μ-loop
-next-column-requires c κs = search needs
+element-copy-out-x : tie.Need-element-copy-out-x Inv-loop μ-loop
+element-copy-out-x c = search needs
 
-byte-at-requires-2 : tie.Need-byte-at-requires-2 Inv-loop μ-loop
-byte-at-requires-2 c κs = search needs
-
-previous-column-requires : tie.Need-previous-column-requires Inv-loop μ-loop
-previous-column-requires c κs = search needs
-
-byte-at-requires-3 : tie.Need-byte-at-requires-3 Inv-loop μ-loop
-byte-at-requires-3 c κs = search needs
+row-one-after-requires : tie.Need-row-one-after-requires Inv-loop μ-loop
+row-one-after-requires c κs = search needs
 
 column-term-requires : tie.Need-column-term-requires Inv-loop μ-loop
 column-term-requires c κs = search needs
 
-mul-out : tie.Need-mul-out Inv-loop μ-loop
-mul-out c = search needs
+mul-before-2 : tie.Need-mul-before-2 Inv-loop μ-loop
+mul-before-2 c = search needs
 
-array-write-out : tie.Need-array-write-out Inv-loop μ-loop
-array-write-out c = search needs
+add-before : tie.Need-add-before Inv-loop μ-loop
+add-before c = search needs
 
-mul-out-2 : tie.Need-mul-out-2 Inv-loop μ-loop
-mul-out-2 c = search needs
+element-copy-out-before-2 : tie.Need-element-copy-out-before-2 Inv-loop μ-loop
+element-copy-out-before-2 c = search needs
 
-add-out : tie.Need-add-out Inv-loop μ-loop
-add-out c = search needs
+mul-k : tie.Need-mul-k Inv-loop μ-loop
+mul-k c = search needs
 
-array-write-out-2 : tie.Need-array-write-out-2 Inv-loop μ-loop
-array-write-out-2 c = search needs
+element-write-k : tie.Need-element-write-k Inv-loop μ-loop
+element-write-k c = search needs
 
-mul-out-3 : tie.Need-mul-out-3 Inv-loop μ-loop
-mul-out-3 c = search needs
+mul-k-2 : tie.Need-mul-k-2 Inv-loop μ-loop
+mul-k-2 c = search needs
 
-add-out-2 : tie.Need-add-out-2 Inv-loop μ-loop
-add-out-2 c = search needs
+add-k : tie.Need-add-k Inv-loop μ-loop
+add-k c = search needs
 
-array-write-out-3 : tie.Need-array-write-out-3 Inv-loop μ-loop
-array-write-out-3 c = search needs
+element-write-k-2 : tie.Need-element-write-k-2 Inv-loop μ-loop
+element-write-k-2 c = search needs
+
+mul-k-3 : tie.Need-mul-k-3 Inv-loop μ-loop
+mul-k-3 c = search needs
+
+add-k-2 : tie.Need-add-k-2 Inv-loop μ-loop
+add-k-2 c = search needs
+
+element-write-k-3 : tie.Need-element-write-k-3 Inv-loop μ-loop
+element-write-k-3 c = search needs
 
 add-j : tie.Need-add-j Inv-loop μ-loop
 add-j c = search needs
@@ -73,27 +95,30 @@ loop-less c = search needs
 
 loop-again : tie.Need-loop-again Inv-loop μ-loop
 loop-again c =
-    let k = c .before .before .before .before .before .before .before .before .before .before .before .args .t2 in
-    let n = 2 * c .before .before .before .before .before .before .before .before .before .before .before .args .t in (
-      refl,
+    let a = c .before .before .before .before .before .before .before .before .before .args in
+    let l = c .before .before .before .before .before .before .loop in
+    let inv = l .inv in
+    let k = now (a .k) in
+    let n = 2 * a .t in
+    let h : l .j < n = omega arith in (
+      (refl, (inv .0 .1 .0, read-unwritten n k (l .k) (l .j) h (inv .1 .1) 2 _ (omega arith) ∙ ap (cell k 2) (previous-next n (l .j) h))),
       (
         search needs,
-        ruled-column cubeRoot (λ i j. cell k i (byRow i j (next n j) (previous n j))) (c .before .before .before .before .before .before .before .before .before .before .loop .j) (c .before .before .before .before .before .before .before .before .before .before .loop .out)
-            (c .before .before .before .before .before .before .before .byte-at .result) (c .before .before .before .before .byte-at2 .result) (c .before .byte-at3 .result) (c .column-term .result)
-            (omega arith) (c .before .before .before .before .before .before .before .before .before .before .loop .inv .1 .1)
-            (c .before .before .before .before .before .before .before .byte-at .ensures)
-            (c .before .before .before .before .byte-at2 .ensures ∙ ap (cell k 1) (c .before .before .before .before .before .next-column .ensures .is))
-            (c .before .byte-at3 .ensures ∙ ap (cell k 2) (c .before .before .previous-column .ensures .is))
-            (c .column-term .ensures),
+        column-stepped n k (l .k) (l .j) h (inv .1 .1) _ (c .before .before .row-one-after .result) (l .before) (c .before .column-term .result) (omega (arith, c .before .before .before .before .before .before .before .before .before .pre .0 .most, c .before .before .before .before .before .before .before .before .before .pre .1))
+            (read-unwritten n k (l .k) (l .j) h (inv .1 .1) 0 _ (omega arith))
+            (c .before .before .row-one-after .ensures ∙ read-after n k (l .k) (l .j) h (inv .1 .1) _ (inv .0 .1 .0)) (inv .0 .1 .1)
+            (c .before .column-term .ensures),
       ),
     )
 
 returns : tie.Need-returns Inv-loop μ-loop
 returns c =
-    let t = c .before .before .args .t in
-    let k = c .before .before .args .t2 in
-    let e : c .before .loop .j ≡ 2 * t = omega arith in
-    c .before .loop .inv .1 .1 ∙ ap (λ (j : ℕ). padded (fill j (stepped (2 * t) k))) e ∙ ap padded (sym (step-once (2 * t) k))
+    let a = c .before .before .before .before .args in
+    let k = now (a .k) in
+    let l = c .before .loop in
+    let e : l .j ≡ 2 * a .t = omega arith in
+    let e′ : 3 * (2 * a .t) ≡ 6 * a .t = omega arith in
+    l .inv .1 .1 ∙ ap (λ (j : ℕ). upto (stepped (2 * a .t) k) j k) e ∙ ap₂ _++_ (sym (step-once (2 * a .t) k)) (ap (λ (m : ℕ). drop m k) e′)
 
 pub linear-step-spec : {M : Type 1} → statement M
 linear-step-spec =
@@ -102,21 +127,26 @@ linear-step-spec =
     Inv-loop
     μ-loop
     mul-n
+    element-copy-out-first
+    mul-before
+    sub-before
+    element-copy-out-before
     loop-holds
-    byte-at-requires
-    next-column-requires
-    byte-at-requires-2
-    previous-column-requires
-    byte-at-requires-3
+    mul-x
+    element-copy-out-x
+    row-one-after-requires
     column-term-requires
-    mul-out
-    array-write-out
-    mul-out-2
-    add-out
-    array-write-out-2
-    mul-out-3
-    add-out-2
-    array-write-out-3
+    mul-before-2
+    add-before
+    element-copy-out-before-2
+    mul-k
+    element-write-k
+    mul-k-2
+    add-k
+    element-write-k-2
+    mul-k-3
+    add-k-2
+    element-write-k-3
     add-j
     loop-less
     loop-again

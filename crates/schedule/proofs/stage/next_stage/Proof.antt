@@ -1,11 +1,13 @@
 -- `schedule::stage::next_stage` meets its contract.
-use mathlib.Core.Path.{ap, _∙_}
-use mathlib.Core.List.{List}
+use mathlib.Core.Path.{_≡_, ap, _∙_}
+use mathlib.Core.List.{List, _++_}
 use Prim.Native.Nat.{ℕ, _*_}
-use Rattle.schedule.specs.Columns.{plus, padded}
+use native.Mathlib.Omega.{arith}
+use denote.Ref.{now}
+use lib.ListN.{length, drop}
+use Rattle.schedule.specs.Columns.{plus}
 use Rattle.schedule.specs.Stages.{linearStep, constant}
-use Rattle.schedule.proofs.Padded.{padded-agrees, step-agrees}
-use Rattle.schedule.proofs.Stages.{length-plus}
+use Rattle.schedule.proofs.Padded.{length-plus, length-kept, step-kept}
 use borrow.Author.Needs.{needs}
 use Rattle.schedule.proofs.stage.next_stage.Statement.{statement}
 use Rattle.schedule.proofs.stage.next_stage.Tie as tie
@@ -14,16 +16,21 @@ add-constant-requires : tie.Need-add-constant-requires
 add-constant-requires c κs = search needs
 
 linear-step-requires : tie.Need-linear-step-requires
-linear-step-requires c κs = search needs
+linear-step-requires c κs =
+    let p = c .before .before .before in
+    let t = p .args .t in
+    let k = now (p .args .k) in
+    let e : length (plus (2 * t) k (constant t (p .args .s))) ≡ 6 * t = omega (arith, length-plus (2 * t) k (constant t (p .args .s))) in
+    (p .pre .0, ap length (c .before .add-constant .ensures) ∙ length-kept (6 * t) (plus (2 * t) k (constant t (p .args .s))) k e (omega (arith, p .pre .0 .most, p .pre .1 .1)) ∙ p .pre .1 .1)
 
 returns : tie.Need-returns
 returns c =
-    let t = c .before .before .args .t in
-    let s = c .before .before .args .s in
-    let x = plus (2 * t) (c .before .before .args .k) (constant t s) in
+    let p = c .before .before .before .before in
+    let t = p .args .t in
+    let k = now (p .args .k) in
     c .linear-step .ensures
-    ∙ ap (λ (y : List ℕ). padded (linearStep (2 * t) y)) (c .before .add-constant .ensures)
-    ∙ ap padded (step-agrees (2 * t) (padded x) x (padded-agrees (2 * t) x (length-plus (2 * t) _ _)))
+    ∙ ap (λ (x : List ℕ). linearStep (2 * t) x ++ drop (6 * t) x) (c .before .before .add-constant .ensures)
+    ∙ step-kept t (plus (2 * t) k (constant t (p .args .s))) (drop (6 * t) k) (length-plus (2 * t) k (constant t (p .args .s)))
 
 pub next-stage-spec : {M : Type 1} → statement M
 next-stage-spec = tie.close (tie.spec add-constant-requires linear-step-requires returns)
