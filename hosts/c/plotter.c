@@ -24,6 +24,8 @@ static const char *reason(uint32_t number) {
         return "contractor not in standing";
     case GORDZILA_IN_STANDING:
         return "contractor already in standing";
+    case GORDZILA_COUNT_SPENT:
+        return "contractor's number is used up";
     case GORDZILA_OTHER_COUNT:
         return "grant from an earlier standing";
     default:

@@ -6,7 +6,7 @@ use lib.ListN.{length, getD, take, drop}
 use Rattle.layers.specs.State.{State, at, build}
 use Rattle.rounds.specs.Rounds.{listedFrom}
 
--- twelve bytes as a state: byte i + 3j is row i, column j
+-- twelve bytes as a state: byte i + 3j is row i, column j. Paper 000 says so of the key (3.5) and not of the block; document 01 decides
 abbrev pub stateOf : List ℕ → State
 stateOf b = build (λ i j. getD b (i + 3 * j) 0)
 

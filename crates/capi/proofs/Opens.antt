@@ -16,7 +16,7 @@ use Rattle.roll.specs.declared.Roll.{Roll}
 use Rattle.roll.specs.Roll.{countOf, inStanding, rollOf}
 use Rattle.grant.specs.Grants.{isRight, isGrant, contractorIn, countIn, blockIn, rightIn}
 use Rattle.grant.specs.Calls.{openedGrant, plainTries, checkTries, checkNumber, checkContractor, checkRight}
-use Rattle.revocation.specs.Claims.{Opening, OpensExactlyWhen}
+use Rattle.revocation.specs.Claims.{Opening, Accepted, OpensExactlyWhen}
 use Rattle.revocation.proofs.Claims.{opens-exactly-when}
 use Rattle.capi.specs.Codes.{checkCode, wrongRoll, callCode, callTries}
 use Rattle.capi.specs.Claims.{CallOrdered}
@@ -92,22 +92,31 @@ whole-above roll x y l h = by (eqb (length roll) 400) refl h
     by true e h = (eqb-true (length roll) 400 e, h)
     by false e h = let z : ⊥ = omega arith in absurd z
 
+module _ (key : List ℕ) (rounds : ℕ) (roll grant : List ℕ) (block right : ℕ) where
+  -- the check was not refused
+  pub call-passed : 1000 ≤ callCode key rounds roll grant block right → (length roll ≡ 400) × (checkNumber key rounds (rollOf roll) grant block right ≡ 0)
+  unfolding callCode checkCode
+  call-passed h =
+      let w = whole-above roll (checkCode key rounds (rollOf roll) grant block right) (wrongRoll key rounds) (wrong-below key rounds) h in
+      let x = 1000 * checkRight key rounds (rollOf roll) grant block right + checkContractor key rounds (rollOf roll) grant block right in
+      (w .0, accepted-above (checkNumber key rounds (rollOf roll) grant block right) x (check-below key rounds (rollOf roll) grant block right) (w .1))
+
+  -- and what it answered is the call's number
+  pub call-given : length roll ≡ 400 → (c : ℕ) → Accepted key rounds (rollOf roll) grant block right c → callCode key rounds roll grant block right ≡ 1000 * right + c
+  unfolding callCode checkCode
+  call-given l c a =
+      let r = checkRight key rounds (rollOf roll) grant block right in
+      let n = checkContractor key rounds (rollOf roll) grant block right in
+      ap (λ (b : Bool). cond b (checkCode key rounds (rollOf roll) grant block right) (wrongRoll key rounds)) (eq-eqb (length roll) 400 l)
+      ∙ sym (answer-done (checkTries key rounds (rollOf roll) grant block right) (1000 * r + n) (checkNumber key rounds (rollOf roll) grant block right) (a .number))
+      ∙ ap₂ (λ (x y : ℕ). 1000 * x + y) (a .answers-right) (a .answers-contractor)
+
 module _ (key : List ℕ) (hk : AreBytes key) (rounds : ℕ) (roll grant : List ℕ) (hg : AreBytes grant) (block : ℕ) (few : block < 4294967296) (right : ℕ) where
   pub call-opening : 1000 ≤ callCode key rounds roll grant block right → (length roll ≡ 400) × Opening key rounds (rollOf roll) grant block right
-  unfolding callCode checkCode OpensExactlyWhen
+  unfolding OpensExactlyWhen
   call-opening h =
-      let w = whole-above roll (checkCode key rounds (rollOf roll) grant block right) (wrongRoll key rounds) (wrong-below key rounds) h in
-      let n = checkNumber key rounds (rollOf roll) grant block right in
-      let e = accepted-above n (1000 * checkRight key rounds (rollOf roll) grant block right + checkContractor key rounds (rollOf roll) grant block right)
-      (check-below key rounds (rollOf roll) grant block right) (w .1) in
-      (w .0, opens-exactly-when key hk rounds (rollOf roll) grant hg block few right .0 e)
+      let w = call-passed key rounds roll grant block right h in (w .0, opens-exactly-when key hk rounds (rollOf roll) grant hg block few right .0 (w .1))
 
   pub call-accepted : length roll ≡ 400 → (o : Opening key rounds (rollOf roll) grant block right) → callCode key rounds roll grant block right ≡ 1000 * right + o .contractor
-  unfolding callCode checkCode OpensExactlyWhen
-  call-accepted l o =
-      let a = opens-exactly-when key hk rounds (rollOf roll) grant hg block few right .1 o in
-      let r = checkRight key rounds (rollOf roll) grant block right in
-      let c = checkContractor key rounds (rollOf roll) grant block right in
-      ap (λ (b : Bool). cond b (checkCode key rounds (rollOf roll) grant block right) (wrongRoll key rounds)) (eq-eqb (length roll) 400 l)
-      ∙ sym (answer-done (checkTries key rounds (rollOf roll) grant block right) (1000 * r + c) (checkNumber key rounds (rollOf roll) grant block right) (a .number))
-      ∙ ap₂ (λ (x y : ℕ). 1000 * x + y) (a .answers-right) (a .answers-contractor)
+  unfolding OpensExactlyWhen
+  call-accepted l o = call-given key rounds roll grant block right l (o .contractor) (opens-exactly-when key hk rounds (rollOf roll) grant hg block few right .1 o)

@@ -16,7 +16,8 @@ unfoldable pub preceding : ℕ → ℕ → ℕ
 preceding t zero = turn t - 1
 preceding t (suc s) = s
 
--- what is added to stage s before the linear step: constant s + 1, and the closing sum from the last stage
+-- what is added to stage s before the linear step: constant s + 1, and the closing sum from the last stage. Paper 000, section 3.7, adds the
+-- closing sum after the step; document 01 decides
 unfoldable pub addend : ℕ → ℕ → List ℕ
 addend t s = cond (ltb (suc s) (turn t)) (constant t (suc s)) (closingSum t)
 

@@ -4,11 +4,12 @@ use mathlib.Core.List.{List, [], _∷_, _++_, append-assoc, append-nil}
 use Prim.Native.Nat.{ℕ, zero, suc, _+_, _-_, _*_, _/_, _%_, _<_}
 use native.Mathlib.Omega.{arith}
 use native.Mathlib.Numerals.{add-one}
+use lib.Dec.{lit<}
 use lib.ListN.{length, getD, take, drop, set, replicate, length-append, drop-of-length-le}
 use lib.Seq.{take-suc, length-take-le, set-at, take-all, drop-cons}
 use Rattle.roll.specs.Roll.{countsOf, countsBytes}
 
-length-counts : (bs : List ℕ) (n : ℕ) → length bs ≡ 2 * n → length (countsOf bs) ≡ n
+pub length-counts : (bs : List ℕ) (n : ℕ) → length bs ≡ 2 * n → length (countsOf bs) ≡ n
 unfolding countsOf
 length-counts [] zero e = refl
 length-counts [] (suc n) e = let z : ⊥ = omega (arith, e) in absurd z
@@ -24,6 +25,14 @@ counts-more (a ∷ []) zero x y e = let z : ⊥ = omega (arith, e) in absurd z
 counts-more (a ∷ []) (suc n) x y e = let z : ⊥ = omega (arith, e) in absurd z
 counts-more (a ∷ b ∷ bs) zero x y e = let z : ⊥ = omega (arith, e) in absurd z
 counts-more (a ∷ b ∷ bs) (suc n) x y e = ap {B = List ℕ} (λ l. (256 * a + b) ∷ l) (counts-more bs n x y (omega (arith, e)))
+
+-- counts of bytes are 16-bit numbers
+pub counts-small : (bs : List ℕ) → ((i : ℕ) → getD bs i 0 < 256) → (i : ℕ) → getD (countsOf bs) i 0 < 65536
+unfolding countsOf
+counts-small [] h i = lit< tt
+counts-small (a ∷ []) h i = lit< tt
+counts-small (a ∷ b ∷ bs) h zero = omega (arith, h 0, h 1)
+counts-small (a ∷ b ∷ bs) h (suc i) = counts-small bs (λ j. h (suc (suc j))) i
 
 -- the first i counts, and zeros
 unfoldable pub counts-to : List ℕ → ℕ → List ℕ
@@ -55,10 +64,17 @@ module _ (bytes : List ℕ) (all : length bytes ≡ 400) where
   counts-all = append-nil (countsOf (take 400 bytes)) ∙ ap countsOf (take-all 400 bytes (omega arith))
 
 -- ---- a roll written to bytes
-length-bytes : (ns : List ℕ) → length (countsBytes ns) ≡ 2 * length ns
+pub length-bytes : (ns : List ℕ) → length (countsBytes ns) ≡ 2 * length ns
 unfolding countsBytes
 length-bytes [] = refl
 length-bytes (n ∷ ns) = let h = length-bytes ns in omega arith
+
+pub bytes-small : (ns : List ℕ) (i : ℕ) → getD (countsBytes ns) i 0 < 256
+unfolding countsBytes
+bytes-small [] i = lit< tt
+bytes-small (n ∷ ns) zero = omega arith
+bytes-small (n ∷ ns) (suc zero) = omega arith
+bytes-small (n ∷ ns) (suc (suc i)) = bytes-small ns i
 
 bytes-more : (ns : List ℕ) (n : ℕ) → countsBytes (ns ++ (n ∷ [])) ≡ countsBytes ns ++ (n / 256 % 256 ∷ n % 256 ∷ [])
 unfolding countsBytes

@@ -16,7 +16,7 @@ emptyRoll = record { counts = replicate 200 0 }
 abbrev pub isContractor : ℕ → Bool
 isContractor c = leb 1 c && leb c 200
 
--- a contractor's count
+-- a contractor's count. Other numbers than 1 to 200 are refused before it is asked for
 unfoldable pub countOf : Roll → ℕ → ℕ
 countOf roll c = getD (roll .counts) (c - 1) 0
 

@@ -61,8 +61,8 @@ module _ (f g : ℕ → ℕ → ℕ) where
 pub tops-is : (h l : ℕ) → h < 16 → l < 16 → bitOr (bitAnd h 12) (l / 4) ≡ joinTops h l
 tops-is = halves (λ h l. bitOr (bitAnd h 12) (l / 4)) joinTops tt
 
-pub lows-is : (h l : ℕ) → h < 16 → l < 16 → bitOr (bitAnd h 3 * 4 % 256) (bitAnd l 3) ≡ joinLows h l
-lows-is = halves (λ h l. bitOr (bitAnd h 3 * 4 % 256) (bitAnd l 3)) joinLows tt
+pub lows-is : (h l : ℕ) → h < 16 → l < 16 → bitOr (bitAnd h 3 * 4 % 18446744073709551616) (bitAnd l 3) ≡ joinLows h l
+lows-is = halves (λ h l. bitOr (bitAnd h 3 * 4 % 18446744073709551616) (bitAnd l 3)) joinLows tt
 
-pub halves-is : (h l : ℕ) → h < 16 → l < 16 → bitOr (h * 16 % 256) l ≡ joinHalves h l
-halves-is = halves (λ h l. bitOr (h * 16 % 256) l) joinHalves tt
+pub halves-is : (h l : ℕ) → h < 16 → l < 16 → bitOr (h * 16 % 18446744073709551616) l ≡ joinHalves h l
+halves-is = halves (λ h l. bitOr (h * 16 % 18446744073709551616) l) joinHalves tt

@@ -1,4 +1,5 @@
-// The S-box of a byte, computed from two mini-boxes of sixteen 4-bit numbers.
+// The S-box of a byte, computed from two mini-boxes of sixteen 4-bit numbers. These are kept as wide as an index, so that none has to be
+// widened for a look-up.
 
 ghost use mathlib.Core.Path.{_≡_};
 ghost use Prim.Native.Nat.{_%_, _<_};
@@ -9,22 +10,22 @@ pub const P: [u8; 16] = [3, 15, 14, 0, 5, 4, 11, 12, 13, 10, 9, 6, 7, 8, 2, 1];
 
 pub const Q: [u8; 16] = [9, 14, 5, 6, 10, 2, 3, 12, 15, 0, 4, 13, 7, 11, 1, 8];
 
-fn mini_p(p: &[u8; 16], x: u8) -> u8
+fn mini_p(p: &[u8; 16], x: usize) -> usize
     requires { ⌜ (now p ≡ tableP) × (x < 16) ⌝ }
     ensures { λ r. ⌜ IsNibble r (miniP x) ⌝ }
 {
-    p[x as usize]
+    p[x] as usize
 }
 
-fn mini_q(q: &[u8; 16], x: u8) -> u8
+fn mini_q(q: &[u8; 16], x: usize) -> usize
     requires { ⌜ (now q ≡ tableQ) × (x < 16) ⌝ }
     ensures { λ r. ⌜ IsNibble r (miniQ x) ⌝ }
 {
-    q[x as usize]
+    q[x] as usize
 }
 
 // The top two bits of h joined to the top two of l.
-fn join_tops(h: u8, l: u8) -> u8
+fn join_tops(h: usize, l: usize) -> usize
     requires { ⌜ (h < 16) × (l < 16) ⌝ }
     ensures { λ r. ⌜ IsNibble r (joinTops h l) ⌝ }
 {
@@ -32,7 +33,7 @@ fn join_tops(h: u8, l: u8) -> u8
 }
 
 // The low two bits of h joined to the low two of l.
-fn join_lows(h: u8, l: u8) -> u8
+fn join_lows(h: usize, l: usize) -> usize
     requires { ⌜ (h < 16) × (l < 16) ⌝ }
     ensures { λ r. ⌜ IsNibble r (joinLows h l) ⌝ }
 {
@@ -40,17 +41,17 @@ fn join_lows(h: u8, l: u8) -> u8
 }
 
 // h as the high half of a byte, l as its low half.
-fn join_halves(h: u8, l: u8) -> u8
+fn join_halves(h: usize, l: usize) -> u8
     requires { ⌜ (h < 16) × (l < 16) ⌝ }
     ensures { λ r. ⌜ r ≡ joinHalves h l ⌝ }
 {
-    (h << 4) | l
+    ((h << 4) | l) as u8
 }
 
-fn low_half(x: u8) -> u8
+fn low_half(x: u8) -> usize
     ensures { λ r. ⌜ IsNibble r (x % 16) ⌝ }
 {
-    x & 15
+    (x & 15) as usize
 }
 
 // The S-box of a byte, from the two tables lent.
@@ -58,7 +59,7 @@ pub fn substitute_with(p: &[u8; 16], q: &[u8; 16], x: u8) -> u8
     requires { ⌜ (now p ≡ tableP) × (now q ≡ tableQ) ⌝ }
     ensures { λ r. ⌜ r ≡ sbox x ⌝ }
 {
-    let h1 = mini_p(p, x >> 4);
+    let h1 = mini_p(p, (x >> 4) as usize);
     let l1 = mini_q(q, low_half(x));
     let h2 = mini_q(q, join_tops(h1, l1));
     let l2 = mini_p(p, join_lows(h1, l1));

@@ -1,4 +1,5 @@
-// A stage after another, and a stage's subkey. A stage of 2t columns is kept in 24 bytes, with zeros past it.
+// A stage after another, and a stage's subkey. A stage of 2t columns is kept in 24 bytes: `stage_of_key` puts zeros past it, and the steps
+// leave what stands there.
 
 ghost use mathlib.Core.Path.{_≡_};
 ghost use mathlib.Core.Bool.{cond};

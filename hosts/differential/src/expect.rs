@@ -100,16 +100,16 @@ fn reasons(case: &Case, oracle: &mut Oracle) -> Vec<u32> {
 fn holds(case: &Case, reason: u32) -> bool {
     match reason {
         1 => allowed_rounds(case.key.len()).is_none(),
-        2 => allowed_rounds(case.key.len()).is_some_and(|range| !range.contains(&case.rounds)),
+        2 => allowed_rounds(case.key.len()).map_or(false, |range| !range.contains(&case.rounds)),
         3 => wrong_input(case),
         4 => (case.out as u64) < needed(case),
         5 if case.call == Call::Run => wrong_list(case.list.len()),
         5 => allowed_rounds(case.key.len()).is_some() && case.stage as usize >= case.key.len(),
         6 => !is_contractor(case.contractor),
         7 => case.right != 1 && case.right != 2,
-        20 => own_count(case).is_some_and(|count| !in_standing(count)),
-        21 => own_count(case).is_some_and(in_standing),
-        22 => own_count(case).is_some_and(|count| count >= SPENT),
+        20 => own_count(case).map_or(false, |count| !in_standing(count)),
+        21 => own_count(case).map_or(false, in_standing),
+        22 => own_count(case).map_or(false, |count| count >= SPENT),
         other => panic!("reason {other} is not seen without deciphering"),
     }
 }
@@ -140,24 +140,24 @@ fn check_reasons(mut reasons: Vec<u32>, case: &Case, oracle: &mut Oracle) -> Vec
     if reasons.iter().any(|reason| [1, 2, 3].contains(reason)) {
         return reasons;
     }
-    let Some(grant) = opened(case, oracle) else {
-        reasons.push(8);
-        return reasons;
-    };
+    match opened(case, oracle) {
+        Some(grant) => reasons.extend(grant_reasons(case, &grant)),
+        None => reasons.push(8),
+    }
+    reasons
+}
+
+/// The reasons of a check that are seen in the deciphered grant.
+fn grant_reasons(case: &Case, grant: &Grant) -> Vec<u32> {
     let count = count(&case.roll, u32::from(grant.contractor));
-    let grant_reasons = [
+    let reasons = [
         (9, grant.block != case.size_block),
         (10, u32::from(grant.right) != case.right),
         (20, !in_standing(count)),
         (23, grant.count != count),
     ];
-    reasons.extend(
-        grant_reasons
-            .iter()
-            .filter(|pair| pair.1)
-            .map(|pair| pair.0),
-    );
-    reasons
+    let holding = reasons.iter().filter(|pair| pair.1);
+    holding.map(|pair| pair.0).collect()
 }
 
 /// The grant of a case deciphered, if it is one.

@@ -13,14 +13,21 @@ const SEED: u64 = 1;
 
 fn main() -> ExitCode {
     let arguments: Vec<String> = env::args().skip(1).collect();
-    let Some(plan) = plan(&arguments) else {
-        eprintln!("usage: differential [CASES] [SEED]");
-        return ExitCode::from(2);
-    };
+    match plan(&arguments) {
+        Some(plan) => run(&plan),
+        None => {
+            eprintln!("usage: differential [CASES] [SEED]");
+            ExitCode::from(2)
+        }
+    }
+}
+
+/// Does what is planned, and says what came out.
+fn run(plan: &Plan) -> ExitCode {
     let start = Instant::now();
-    let outcome = work(&plan, &archive);
+    let outcome = work(plan, &archive);
     eprintln!("{} threads, {:.1?}", plan.threads, start.elapsed());
-    print(&plan, &outcome);
+    print(plan, &outcome);
     ExitCode::from(u8::from(!outcome.is_good()))
 }
 

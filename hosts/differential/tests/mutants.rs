@@ -1,7 +1,7 @@
 //! The comparison can fail: libraries that do something wrong are found out.
 
 use std::sync::atomic::{AtomicUsize, Ordering};
-use std::sync::OnceLock;
+use std::sync::Mutex;
 
 use gordzila_differential::archive::archive;
 use gordzila_differential::call::{Argument, Argument as A, Call};
@@ -15,14 +15,14 @@ use gordzila_differential::work::{family_cases, FAMILY};
 const SEED: u64 = 7;
 const FAMILIES: u64 = 200;
 
-/// The cases on which all is tried.
+/// The cases on which all is tried. They are drawn once, by the test that comes first.
 fn cases() -> &'static [(Case, Expected)] {
-    static CASES: OnceLock<Vec<(Case, Expected)>> = OnceLock::new();
-    CASES.get_or_init(|| {
+    static CASES: Mutex<Option<&[(Case, Expected)]>> = Mutex::new(None);
+    let mut cases = CASES.lock().expect("no test panics while it draws");
+    cases.get_or_insert_with(|| {
         let families = 0..FAMILIES;
-        families
-            .flat_map(|family| family_cases(SEED, family, FAMILY))
-            .collect()
+        let drawn = families.flat_map(|family| family_cases(SEED, family, FAMILY));
+        drawn.collect::<Vec<_>>().leak()
     })
 }
 

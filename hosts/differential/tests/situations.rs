@@ -1,6 +1,6 @@
 //! The inputs that matter occur among the cases, beyond the answers that the table counts.
 
-use std::sync::OnceLock;
+use std::sync::Mutex;
 
 use gordzila_differential::call::Call;
 use gordzila_differential::case::Case;
@@ -11,13 +11,14 @@ use gordzila_differential::work::{family_cases, FAMILY};
 const SEED: u64 = 11;
 const FAMILIES: u64 = 300;
 
+/// The cases among which all is looked for. They are drawn once, by the test that comes first.
 fn cases() -> &'static [(Case, Expected)] {
-    static CASES: OnceLock<Vec<(Case, Expected)>> = OnceLock::new();
-    CASES.get_or_init(|| {
+    static CASES: Mutex<Option<&[(Case, Expected)]>> = Mutex::new(None);
+    let mut cases = CASES.lock().expect("no test panics while it draws");
+    cases.get_or_insert_with(|| {
         let families = 0..FAMILIES;
-        families
-            .flat_map(|family| family_cases(SEED, family, FAMILY))
-            .collect()
+        let drawn = families.flat_map(|family| family_cases(SEED, family, FAMILY));
+        drawn.collect::<Vec<_>>().leak()
     })
 }
 

@@ -2,6 +2,7 @@
 use mathlib.Core.Path.{sym, ap, subst}
 use mathlib.Core.List.{List}
 use Prim.Native.Nat.{ℕ, _<_}
+use native.Mathlib.Omega.{arith}
 use lib.ListN.{getD}
 use Rattle.sbox.proofs.Laws.{p-small}
 use borrow.Author.Needs.{needs}
@@ -11,10 +12,15 @@ use Rattle.sbox.proofs.mini_p.Tie as tie
 element-copy-out-result : tie.Need-element-copy-out-result
 element-copy-out-result c = search needs
 
+cast-result : tie.Need-cast-result
+cast-result c =
+    let e = ap (λ (t : List ℕ). getD t (c .before .args .x) 0) (c .before .pre .0) in
+    record { fits = omega (arith, e, p-small (c .before .args .x)) }
+
 returns : tie.Need-returns
 returns c =
     let e = ap (λ (t : List ℕ). getD t (c .before .args .x) 0) (c .before .pre .0) in
     record { is = e; small = subst (λ (n : ℕ). n < 16) (sym e) (p-small (c .before .args .x)) }
 
 pub mini-p-spec : {M : Type 1} → statement M
-mini-p-spec = tie.close (tie.spec element-copy-out-result returns)
+mini-p-spec = tie.close (tie.spec element-copy-out-result cast-result returns)

@@ -4,6 +4,9 @@ use borrow.Author.Needs.{needs}
 use Rattle.sbox.proofs.substitute_with.Statement.{statement}
 use Rattle.sbox.proofs.substitute_with.Tie as tie
 
+cast-mini-p : tie.Need-cast-mini-p
+cast-mini-p c = search needs
+
 mini-p-requires : tie.Need-mini-p-requires
 mini-p-requires c κs = search needs
 
@@ -48,6 +51,7 @@ pub substitute-with-spec : {M : Type 1} → statement M
 substitute-with-spec =
     tie.close
     (tie.spec
+    cast-mini-p
     mini-p-requires
     low-half-requires
     mini-q-requires

@@ -4,6 +4,7 @@ use crate::failure::{Answer, Failure};
 use crate::options::{
     Options, BLOCK, CONTRACTOR, GRANT, KEY, KEY_FILE, RIGHT, ROLL, ROUNDS, STAGE,
 };
+use crate::printing::Done::{self, Changed, Told};
 use crate::{help, hex, rolls};
 use gordzila::{raw, Reason, Roll, BLOCK_BYTES, CONTRACTORS};
 use std::ffi::{OsStr, OsString};
@@ -15,19 +16,19 @@ type CipherCall = fn(&[u8], u32, &[u8], &mut [u8]) -> Result<(), Reason>;
 type RollCall = fn(&mut Roll, u32) -> Result<(), Reason>;
 
 /// Runs the subcommand that a word names, on the words after it.
-pub fn run(name: &OsStr, words: &[OsString]) -> Answer {
+pub fn run(name: &OsStr, words: &[OsString]) -> Result<Done, Failure> {
     let name = known(name)?;
     if asks_for_help(words) {
-        return Ok(help::of(name));
+        return Ok(Told(help::of(name)));
     }
     match name {
-        "issue" => issue(words),
-        "check" => check(words),
-        "encipher" => cipher(words, raw::encipher),
-        "decipher" => cipher(words, raw::decipher),
-        "stage" => stage(words),
-        "enter" => change(words, "entered", Roll::enter),
-        "withdraw" => change(words, "withdrawn", Roll::withdraw),
+        "issue" => issue(words).map(Told),
+        "check" => check(words).map(Told),
+        "encipher" => cipher(words, raw::encipher).map(Told),
+        "decipher" => cipher(words, raw::decipher).map(Told),
+        "stage" => stage(words).map(Told),
+        "enter" => change(words, "entered", Roll::enter).map(Changed),
+        "withdraw" => change(words, "withdrawn", Roll::withdraw).map(Changed),
         _ => roll(words),
     }
 }
@@ -103,13 +104,13 @@ fn change(words: &[OsString], done: &str, call: RollCall) -> Answer {
     Ok(format!("{done}: {}", line_on(&roll, contractor)))
 }
 
-fn roll(words: &[OsString]) -> Answer {
+fn roll(words: &[OsString]) -> Result<Done, Failure> {
     let (verb, rest) = words
         .split_first()
         .ok_or_else(|| Failure::usage("roll needs `make` or `list`"))?;
     match verb.to_str() {
-        Some("make") => make(rest),
-        Some("list") => list(rest),
+        Some("make") => make(rest).map(Changed),
+        Some("list") => list(rest).map(Told),
         _ => Err(Failure::usage(format!(
             "roll needs `make` or `list`, not `{}`",
             verb.to_string_lossy()

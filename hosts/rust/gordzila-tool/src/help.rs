@@ -56,7 +56,8 @@ number, and numbers are decimal.
 A key on the command line is seen by others on the machine: use --key-file.
 
 exit status: 0 done, or the grant opens; 1 refused, with the number and the
-reason on standard error; 2 bad usage, or a file that cannot be used.
+reason on standard error; 2 bad usage, or a file or standard output that cannot
+be used.
 ";
 
 const ISSUE: &str = "\
@@ -129,7 +130,10 @@ usage: gordzila enter OPTIONS
   --contractor N    1 to 200, not in standing
 
 While it works there is a file FILE.lock, and no other change of the roll
-starts. A process that was killed may leave it; then remove it.
+starts. A process that was killed may leave it; remove it if you are sure that
+no change is under way.
+A file with a second name (hard link) is not changed. With status 2 the roll is
+as it was, unless the message says that the change is made.
 ";
 
 const WITHDRAW: &str = "\
@@ -141,7 +145,10 @@ usage: gordzila withdraw OPTIONS
   --contractor N    1 to 200, in standing
 
 While it works there is a file FILE.lock, and no other change of the roll
-starts. A process that was killed may leave it; then remove it.
+starts. A process that was killed may leave it; remove it if you are sure that
+no change is under way.
+A file with a second name (hard link) is not changed. With status 2 the roll is
+as it was, unless the message says that the change is made.
 ";
 
 const ROLL: &str = "\
@@ -154,4 +161,7 @@ usage: gordzila roll make --roll FILE
 
 `make` does not replace a file: on a roll that starts anew, revoked grants may
 open again.
+While `make` works there is a file FILE.lock, and no other change of the roll
+starts. A process that was killed may leave it; remove it if you are sure that
+no change is under way.
 ";

@@ -10,10 +10,12 @@ mod help;
 mod hex;
 mod lock;
 mod options;
+mod printing;
 mod replace;
 mod rolls;
 
 use failure::{Answer, Failure};
+use printing::{print, Done};
 use std::env;
 use std::ffi::OsString;
 use std::io::{self, Write};
@@ -21,7 +23,7 @@ use std::process::ExitCode;
 
 fn main() -> ExitCode {
     let words: Vec<OsString> = env::args_os().skip(1).collect();
-    match answer(&words).and_then(print) {
+    match done(&words).and_then(print) {
         Ok(()) => ExitCode::SUCCESS,
         Err(failure) => {
             // If standard error is closed too, the exit status still tells.
@@ -31,14 +33,14 @@ fn main() -> ExitCode {
     }
 }
 
-/// What the words after the tool's name lead to: a text for standard output.
-fn answer(words: &[OsString]) -> Answer {
+/// Does what the words after the tool's name ask for.
+fn done(words: &[OsString]) -> Result<Done, Failure> {
     let (first, rest) = words
         .split_first()
         .ok_or_else(|| Failure::usage("a subcommand is missing"))?;
     match first.to_str() {
-        Some("help" | "--help") => help::wanted(rest),
-        Some("--version") => version(rest),
+        Some("help" | "--help") => help::wanted(rest).map(Done::Told),
+        Some("--version") => version(rest).map(Done::Told),
         _ => commands::run(first, rest),
     }
 }
@@ -48,15 +50,4 @@ fn version(rest: &[OsString]) -> Answer {
         return Err(Failure::usage("--version stands alone"));
     }
     Ok(format!("gordzila {}\n", env!("CARGO_PKG_VERSION")))
-}
-
-fn print(text: String) -> Result<(), Failure> {
-    let mut out = io::stdout();
-    out.write_all(text.as_bytes())
-        .and_then(|()| out.flush())
-        .map_err(|error| {
-            Failure::Trouble(format!(
-                "standard output: {error}; what was asked for is done"
-            ))
-        })
 }

@@ -1,5 +1,9 @@
-//! Replacing a file as a whole: whoever reads it finds the old bytes or the new ones,
-//! also after a crash, and an error leaves the old ones.
+//! Replacing a file as a whole, and making a new one: whoever reads it finds the old
+//! bytes or the new ones, also after a crash.
+//!
+//! An error before the new file is in place leaves the old one. Those after it say that
+//! the change is made: here, that a directory could not be synced or a temporary file
+//! not be removed, and in `printing`, that standard output could not be written.
 
 use std::collections::hash_map::RandomState;
 use std::ffi::OsString;
@@ -11,20 +15,43 @@ use std::path::{Path, PathBuf};
 use std::process;
 
 /// Writes the bytes to a temporary file beside the target and renames it over the
-/// target. `old` is the target as it is now, if there is one; its permissions stay.
-pub fn replace(target: &Path, bytes: &[u8], old: Option<&Metadata>) -> io::Result<()> {
-    // Opened first: once the file is renamed, nothing that could be tested before
-    // should fail any more.
-    let directory = File::open(target.parent().unwrap_or_else(|| Path::new(".")))?;
-    let (temporary, mut file) = Temporary::create(target, old.is_some())?;
-    if let Some(old) = old {
-        keep_permissions(&file, old)?;
-    }
-    file.write_all(bytes)?;
-    file.sync_all()?;
+/// target. `old` is the target as it is now; its permissions stay.
+pub fn replace(target: &Path, bytes: &[u8], old: &Metadata) -> io::Result<()> {
+    let directory = directory_of(target)?;
+    // Until it has the permissions of the old file, only the owner can open it.
+    let (temporary, mut file) = Temporary::create(target, 0o600)?;
+    keep_permissions(&file, old)?;
+    write_out(&mut file, bytes)?;
     temporary.rename(target)?;
+    sync(&directory)
+}
+
+/// Writes the bytes to a temporary file beside the target, and gives it the target's
+/// name as a second one. Unlike a rename, that fails where something has the name, also
+/// if another program gave it just now, or to a symbolic link that leads nowhere.
+pub fn make(target: &Path, bytes: &[u8]) -> io::Result<()> {
+    let directory = directory_of(target)?;
+    let (temporary, mut file) = Temporary::create(target, 0o666)?;
+    write_out(&mut file, bytes)?;
+    temporary.link(target)?;
+    sync(&directory)
+}
+
+/// The directory of a file. It is opened first: once the file is in place, nothing that
+/// could be tested before should fail any more.
+fn directory_of(target: &Path) -> io::Result<File> {
+    File::open(target.parent().unwrap_or_else(|| Path::new(".")))
+}
+
+fn write_out(file: &mut File, bytes: &[u8]) -> io::Result<()> {
+    file.write_all(bytes)?;
+    file.sync_all()
+}
+
+fn sync(directory: &File) -> io::Result<()> {
     directory.sync_all().map_err(|error| {
-        let message = format!("changed, but it may not outlast a loss of power: {error}");
+        let message =
+            format!("the change is made, but it may not outlast a loss of power: {error}");
         io::Error::new(error.kind(), message)
     })
 }
@@ -48,41 +75,62 @@ fn keep_permissions(file: &File, old: &Metadata) -> io::Result<()> {
     file.set_permissions(old.permissions())
 }
 
-/// A temporary file, which goes when this does, unless it was renamed.
+/// A temporary file, which goes when this does, unless it was put in place.
 struct Temporary {
     path: PathBuf,
-    renamed: bool,
+    in_place: bool,
 }
 
 impl Temporary {
     /// A new file beside the target. `create_new` opens no file, and follows no link,
-    /// that someone else put there. Where it will get other permissions, only the
-    /// owner can open it until then.
-    fn create(target: &Path, guarded: bool) -> io::Result<(Temporary, File)> {
+    /// that someone else put there.
+    fn create(target: &Path, mode: u32) -> io::Result<(Temporary, File)> {
         let path = target.with_file_name(temporary_name(target));
         let file = OpenOptions::new()
             .write(true)
             .create_new(true)
-            .mode(if guarded { 0o600 } else { 0o666 })
+            .mode(mode)
             .open(&path)?;
-        let renamed = false;
-        Ok((Temporary { path, renamed }, file))
+        let in_place = false;
+        Ok((Temporary { path, in_place }, file))
     }
 
     fn rename(mut self, target: &Path) -> io::Result<()> {
         fs::rename(&self.path, target)?;
-        self.renamed = true;
+        self.in_place = true;
         Ok(())
+    }
+
+    /// Gives the file the target's name, and takes its own away. If its own stays, that
+    /// is told: a roll with two names is not changed.
+    fn link(mut self, target: &Path) -> io::Result<()> {
+        fs::hard_link(&self.path, target).map_err(|error| not_linked(&error))?;
+        self.in_place = true;
+        fs::remove_file(&self.path).map_err(|error| {
+            let path = self.path.display();
+            let message = format!("the change is made, but {path} has to be removed: {error}");
+            io::Error::new(error.kind(), message)
+        })
     }
 }
 
 impl Drop for Temporary {
     fn drop(&mut self) {
-        if !self.renamed {
+        if !self.in_place {
             // A file that stays is in nobody's way, and there is no one left to tell.
             let _ = fs::remove_file(&self.path);
         }
     }
+}
+
+/// A file system without hard links says no more than that one is not permitted, so the
+/// message says what it was about.
+fn not_linked(error: &io::Error) -> io::Error {
+    let message = match error.kind() {
+        io::ErrorKind::AlreadyExists => "exists, and is not replaced".to_string(),
+        _ => format!("cannot be made without a hard link: {error}"),
+    };
+    io::Error::new(error.kind(), message)
 }
 
 /// A name that nobody can foresee: the standard library seeds its hashers at random.

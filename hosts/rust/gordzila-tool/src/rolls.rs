@@ -3,10 +3,11 @@
 use crate::failure::Failure;
 use crate::lock::Lock;
 use crate::options::ROLL;
-use crate::replace::replace;
+use crate::replace;
 use gordzila::{Reason, Roll, ROLL_BYTES};
-use std::fs::{self, File};
+use std::fs::{self, File, Metadata};
 use std::io::{self, Read};
+use std::os::unix::fs::MetadataExt;
 use std::path::{Path, PathBuf};
 
 /// The roll in a file.
@@ -23,17 +24,17 @@ pub fn change(
     call: impl FnOnce(&mut Roll) -> Result<(), Reason>,
 ) -> Result<Roll, Failure> {
     let trouble = |error: io::Error| Failure::file(ROLL, path, error);
-    // The file itself, so that all who reach it by links take the same lock, and no
-    // link is replaced by a file.
+    // The file itself, so that all who reach it by symbolic links take the same lock,
+    // and no symbolic link is replaced by a file.
     let target = fs::canonicalize(path).map_err(trouble)?;
     let _lock = Lock::take(&target).map_err(trouble)?;
     let old = fs::metadata(&target).map_err(trouble)?;
-    if !old.is_file() {
-        return Err(Failure::file(ROLL, path, "not a regular file"));
+    if let Some(why) = unfit(&old) {
+        return Err(Failure::file(ROLL, path, why));
     }
     let mut roll = read(&target)?;
     call(&mut roll)?;
-    replace(&target, roll.bytes(), Some(&old)).map_err(trouble)?;
+    replace::replace(&target, roll.bytes(), &old).map_err(trouble)?;
     Ok(roll)
 }
 
@@ -43,11 +44,19 @@ pub fn make(path: &Path) -> Result<(), Failure> {
     let trouble = |error: io::Error| Failure::file(ROLL, path, error);
     let target = new_target(path).map_err(trouble)?;
     let _lock = Lock::take(&target).map_err(trouble)?;
-    // Links that lead nowhere count as files too.
-    if fs::symlink_metadata(&target).is_ok() {
-        return Err(Failure::file(ROLL, path, "exists, and is not replaced"));
+    replace::make(&target, Roll::empty().bytes()).map_err(trouble)
+}
+
+/// Why a file cannot be replaced, if it cannot. A withdrawal under one of several names
+/// would leave the old roll under the others, where the revoked grants still open.
+fn unfit(old: &Metadata) -> Option<&'static str> {
+    if !old.is_file() {
+        Some("not a regular file")
+    } else if old.nlink() > 1 {
+        Some("it has more than one name (hard links); the others would keep the old roll")
+    } else {
+        None
     }
-    replace(&target, Roll::empty().bytes(), None).map_err(trouble)
 }
 
 /// A file's bytes, and one more than a roll has at most.

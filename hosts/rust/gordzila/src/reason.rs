@@ -25,8 +25,8 @@ pub enum Reason {
     /// 4: out shorter than what is to be written. Only the calls of [`raw`](crate::raw)
     /// can give it.
     OutputTooShort = 4,
-    /// 5: stage number 6t or more; subkey list under 132 bytes, over 288, or no
-    /// multiple of 12.
+    /// 5: stage number not below the key's length in bytes; subkey list under 132
+    /// bytes, over 288, or no multiple of 12.
     StageOrList = 5,
     /// 6: contractor outside 1 to 200.
     Contractor = 6,
@@ -93,13 +93,12 @@ impl Reason {
     fn words(self) -> &'static str {
         match self {
             Reason::KeyLength => "key not 12, 18 or 24 bytes",
-            Reason::RoundCount => {
-                "round count not 10..11, 14..17 or 18..23, by the key's length"
-            }
+            Reason::RoundCount => "round count not 10..11, 14..17 or 18..23, by the key's length",
             Reason::InputLength => "block or grant not 12 bytes; roll not 400 bytes",
             Reason::OutputTooShort => "out shorter than what is to be written",
             Reason::StageOrList => {
-                "stage number 6t or more; subkey list under 132 bytes, over 288, or no multiple of 12"
+                "stage number not below the key's length in bytes; \
+                 subkey list under 132 bytes, over 288, or no multiple of 12"
             }
             Reason::Contractor => "contractor outside 1 to 200",
             Reason::Right => "right neither 1 nor 2",
@@ -110,9 +109,7 @@ impl Reason {
             Reason::InStanding => "entering someone in standing",
             Reason::CountSpent => "entering at count 65,534 or 65,535",
             Reason::OtherCount => "the grant's count differs from the roll's",
-            Reason::BrokenHolder => {
-                "key holder with a wrong length, number or bytes past the key"
-            }
+            Reason::BrokenHolder => "key holder with a wrong length, number or bytes past the key",
         }
     }
 }

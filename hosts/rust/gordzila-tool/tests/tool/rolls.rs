@@ -20,11 +20,11 @@ fn a_file_is_not_replaced_by_an_empty_roll() {
     let room = Room::new("make-over");
     let roll = room.roll(&[(7, 2)]);
     let before = fs::read(&roll).unwrap();
-    on_roll("roll make", &roll, "").stopped("exists");
+    on_roll("roll make", &roll, "").stopped("exists, and is not replaced");
     assert_eq!(fs::read(&roll).unwrap(), before);
     let link = room.path("link");
     std::os::unix::fs::symlink("nowhere", &link).unwrap();
-    on_roll("roll make", &link, "").stopped("exists");
+    on_roll("roll make", &link, "").stopped("exists, and is not replaced");
     assert_eq!(room.names(), ["link", "roll"]);
 }
 

@@ -1,7 +1,7 @@
 //! What the tests share: running the tool, and a directory for each test.
 
 use std::ffi::OsStr;
-use std::fs;
+use std::fs::{self, File};
 use std::path::{Path, PathBuf};
 use std::process::{self, Command, Output};
 
@@ -61,6 +61,13 @@ impl Run {
 /// Runs the tool with words.
 pub fn run<S: AsRef<OsStr>>(words: &[S]) -> Run {
     Command::new(TOOL).args(words).output().unwrap().into()
+}
+
+/// Runs the tool with words, where nothing can be written to standard output.
+pub fn run_unheard<S: AsRef<OsStr>>(words: &[S]) -> Run {
+    let full = File::options().write(true).open("/dev/full").unwrap();
+    let output = Command::new(TOOL).args(words).stdout(full).output();
+    output.unwrap().into()
 }
 
 /// Runs the tool with the words of a line.

@@ -1,10 +1,8 @@
 //! Bad usage, help and the version.
 
-use crate::running::{line, run, Room, Run, KEY, TOOL};
+use crate::running::{line, run, run_unheard, Room, KEY};
 use std::ffi::OsStr;
-use std::fs::File;
 use std::os::unix::ffi::OsStrExt;
-use std::process::Command;
 
 /// Each subcommand with all its options, `ROLL` for the name of a roll.
 const COMPLETE: [&str; 9] = [
@@ -222,6 +220,17 @@ fn help_names_every_option() {
 }
 
 #[test]
+fn help_tells_of_the_lock() {
+    for name in ["enter", "withdraw", "roll"] {
+        let help = line(&format!("help {name}")).done();
+        let text = help.replace('\n', " ");
+        assert!(text.contains("there is a file FILE.lock"), "{help}");
+        let words = "remove it if you are sure that no change is under way";
+        assert!(text.contains(words), "{help}");
+    }
+}
+
+#[test]
 fn the_version_is_told() {
     let expected = format!("gordzila {}\n", env!("CARGO_PKG_VERSION"));
     assert_eq!(line("--version").done(), expected);
@@ -230,12 +239,11 @@ fn the_version_is_told() {
 
 #[test]
 fn output_that_gets_lost_is_told() {
-    let full = File::options().write(true).open("/dev/full").unwrap();
-    let run: Run = Command::new(TOOL)
-        .arg("--version")
-        .stdout(full)
-        .output()
-        .unwrap()
-        .into();
-    run.stopped("standard output: ");
+    let room = Room::new("unheard");
+    for complete in ["--version", "help", "help issue", COMPLETE[0], COMPLETE[7]] {
+        let run = run_unheard(&words(complete, &room));
+        // These change nothing.
+        assert!(!run.err.contains("change"), "{run:?}");
+        run.stopped("standard output: ");
+    }
 }

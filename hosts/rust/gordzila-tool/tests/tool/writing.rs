@@ -1,10 +1,12 @@
 //! How a roll's file is replaced: as a whole or not at all, by one process at a time.
 
-use crate::running::{on_roll, Room, Run, TOOL};
-use std::fs::{self, Permissions};
+use crate::running::{on_roll, run_unheard, Room, Run, TOOL};
+use std::ffi::OsStr;
+use std::fs::{self, File, OpenOptions, Permissions};
+use std::io::{ErrorKind, Read, Write};
 use std::os::unix::fs::{symlink, MetadataExt, PermissionsExt};
 use std::path::Path;
-use std::process::Command;
+use std::process::{Child, Command, Stdio};
 use std::thread;
 
 /// Enters contractor 1 from a shell that first runs other commands.
@@ -87,11 +89,95 @@ fn the_permissions_stay() {
 fn the_old_file_is_not_written_to() {
     let room = Room::new("whole");
     let roll = room.roll(&[]);
-    let second = room.path("second");
-    fs::hard_link(&roll, &second).unwrap();
+    let mut old = File::open(&roll).unwrap();
     on_roll("enter", &roll, "--contractor 1").done();
-    assert_eq!(fs::read(&second).unwrap(), [0; 400]);
+    let mut bytes = Vec::new();
+    old.read_to_end(&mut bytes).unwrap();
+    assert_eq!(bytes, [0; 400]);
     assert_eq!(fs::read(&roll).unwrap()[1], 1);
+}
+
+#[test]
+fn a_file_with_a_second_name_is_left_alone() {
+    let room = Room::new("names");
+    let roll = room.roll(&[(7, 1)]);
+    let before = fs::read(&roll).unwrap();
+    let (second, link) = (room.path("second"), room.path("link"));
+    fs::hard_link(&roll, &second).unwrap();
+    symlink("second", &link).unwrap();
+    let why = "it has more than one name (hard links); the others would keep the old roll";
+    for name in [&roll, &second, &link] {
+        on_roll("enter", name, "--contractor 1").stopped(why);
+        on_roll("withdraw", name, "--contractor 7").stopped(why);
+        assert_eq!(fs::read(name).unwrap(), before);
+        // Reading goes on.
+        let listed = on_roll("roll list", name, "").done();
+        assert_eq!(listed, "contractor 7, count 1\n");
+    }
+    assert_eq!(room.names(), ["link", "roll", "second"]);
+    fs::remove_file(&second).unwrap();
+    on_roll("withdraw", &roll, "--contractor 7").done();
+}
+
+#[test]
+fn a_change_that_cannot_be_told_is_made() {
+    let room = Room::new("untold");
+    let roll = room.path("roll");
+    let count_after = |words: &[&str]| {
+        let mut words: Vec<&OsStr> = words.iter().map(OsStr::new).collect();
+        words.extend([OsStr::new("--roll"), roll.as_os_str()]);
+        let run = run_unheard(&words);
+        assert!(run.err.contains("standard output: "), "{run:?}");
+        run.stopped(", but the change is made");
+        fs::read(&roll).unwrap()[1]
+    };
+    assert_eq!(count_after(&["roll", "make"]), 0);
+    assert_eq!(count_after(&["enter", "--contractor", "1"]), 1);
+    assert_eq!(count_after(&["withdraw", "--contractor", "1"]), 2);
+}
+
+#[test]
+fn a_file_that_comes_meanwhile_is_not_replaced() {
+    for turn in 0..20 {
+        let room = Room::new(&format!("meanwhile-{turn}"));
+        let roll = room.path("roll");
+        let mut making = Command::new(TOOL)
+            .args(["roll", "make", "--roll"])
+            .arg(&roll)
+            .stdout(Stdio::piped())
+            .stderr(Stdio::piped())
+            .spawn()
+            .unwrap();
+        let came = comes_meanwhile(&roll, &room, &mut making);
+        let run = Run::from(making.wait_with_output().unwrap());
+        if came {
+            run.stopped("exists, and is not replaced");
+            assert_eq!(fs::read(&roll).unwrap(), b"other");
+        } else {
+            run.done();
+            assert_eq!(fs::read(&roll).unwrap(), [0; 400]);
+        }
+        assert_eq!(room.names(), ["roll"]);
+    }
+}
+
+/// Makes a file once the temporary file of the tool is there. Says whether it did: not
+/// if the tool was first.
+fn comes_meanwhile(path: &Path, room: &Room, making: &mut Child) -> bool {
+    let is_temporary = |name: &String| name.ends_with(".tmp");
+    while making.try_wait().unwrap().is_none() && !room.names().iter().any(is_temporary) {
+        thread::yield_now();
+    }
+    match OpenOptions::new().write(true).create_new(true).open(path) {
+        Ok(mut file) => {
+            file.write_all(b"other").unwrap();
+            true
+        }
+        Err(error) => {
+            assert_eq!(error.kind(), ErrorKind::AlreadyExists);
+            false
+        }
+    }
 }
 
 #[test]

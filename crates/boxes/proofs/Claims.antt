@@ -1,0 +1,111 @@
+-- A term of each type of specs/Claims.antt.
+use mathlib.Core.Logic.{inl, inr}
+use mathlib.Core.Path.{_≡_, refl, sym, ap, _∙_, subst}
+use mathlib.Core.Bool.{Bool, true, false}
+use mathlib.Core.List.{List, [], _∷_}
+use Prim.Native.Nat.{ℕ, zero, suc, _+_, _*_, _<_}
+use lib.Dec.{ltb, lit<}
+use lib.ListN.{length, getD, take, drop, replicate}
+use lib.Seq.{take-at}
+use borrow.Author.Tests.{ltb-true, ltb-false, eqb-true}
+use Rattle.refusal.specs.Tries.{first, written, answered, NoneHolds}
+use Rattle.refusal.proofs.Tries.{none-holds, none-given}
+use Rattle.refusal.proofs.Answers.{put}
+use Rattle.blocks.specs.Blocks.{AreBytes}
+use Rattle.cipher.specs.Cipher.{cipherBlock}
+use Rattle.roll.specs.declared.Roll.{Roll}
+use Rattle.roll.specs.Roll.{countOf, inStanding, counted, enteredRoll, countsOf, rollOf, countsBytes, rollBytes}
+use Rattle.histories.specs.Histories.{Change, enter, withdraw, rollAfter}
+use Rattle.grant.specs.Calls.{issueTries, issuedGrant, checkNumber}
+use Rattle.revocation.specs.Claims.{Issued, OpensNothing, IssuedOpens, RevokedNeverOpens, RevokedInTwoRooms}
+use Rattle.revocation.proofs.Claims.{issued-opens, revoked-never-opens, revoked-in-two-rooms}
+use Rattle.capi.specs.Codes.{callCode}
+use Rattle.capi.specs.Hosts.{enterCallRoll, issueCallTries, issueCallNumber, issueCallOutput}
+use Rattle.capi.proofs.Opens.{call-passed, call-given}
+use Rattle.boxes.specs.Boxes.{called, bytesAfter, here, CallIssued, grantGiven}
+use Rattle.boxes.specs.Claims.{Refuses, BytesFollowRoll, CallIssuedOpens, CallsRevoke, CallsRevokeInTwoRooms, CallsRevokeSomething}
+use Rattle.boxes.proofs.Stored.{is-roll, after-holds, withdrawn-read}
+
+pub bytes-follow-roll : BytesFollowRoll
+unfolding BytesFollowRoll
+bytes-follow-roll bytes h e hs = after-holds hs bytes h e
+
+-- ---- a grant that gordzila_issue wrote
+module _ (key : List ℕ) (rounds : ℕ) (roll : List ℕ) (contractor block right : ℕ) (out : List ℕ) (i : CallIssued key rounds roll contractor block right out) where
+  allowed : NoneHolds (issueCallTries key rounds roll contractor right out)
+  allowed = none-holds (issueCallTries key rounds roll contractor right out) (lit< tt, (lit< tt, (lit< tt, (lit< tt, (lit< tt, (lit< tt, (lit< tt, tt))))))) (i .number)
+
+  long : length roll ≡ 400
+  long = eqb-true (length roll) 400 (allowed .1 .1 .0)
+
+  -- it is one that was issued on the roll that is read
+  issued : Issued key rounds (rollOf roll) contractor block right out
+  issued = record {
+    key-bytes = i .key-bytes;
+    is-roll = is-roll roll (i .roll-bytes) long;
+    block-small = i .block-small;
+    number = none-given (issueTries key rounds (rollOf roll) contractor right out) (allowed .0, (allowed .1 .0, allowed .1 .1 .1));
+  }
+
+  twelve : length (issuedGrant key rounds (rollOf roll) contractor block right) ≡ 12
+  unfolding issuedGrant cipherBlock
+  twelve = refl
+
+  given : grantGiven key rounds roll contractor block right out ≡ issuedGrant key rounds (rollOf roll) contractor block right
+  unfolding issueCallOutput
+  given =
+      let g = issuedGrant key rounds (rollOf roll) contractor block right in
+      ap (take 12) (sym (put (issueCallNumber key rounds roll contractor right out) g out (i .number))) ∙ take-at g (drop (length g) out) 12 twelve
+
+  pub opens : callCode key rounds roll (grantGiven key rounds roll contractor block right out) block right ≡ 1000 * right + contractor
+  unfolding IssuedOpens
+  opens =
+      ap (λ (g : List ℕ). callCode key rounds roll g block right) given
+      ∙ call-given key rounds roll (issuedGrant key rounds (rollOf roll) contractor block right) block right long contractor
+      (issued-opens key rounds (rollOf roll) contractor block right out issued .opens)
+
+  -- where it opens nothing on the roll after some calls, gordzila_check refuses it on the bytes after them
+  refused : (hs : List Change) → OpensNothing key rounds (rollAfter hs (rollOf roll)) (issuedGrant key rounds (rollOf roll) contractor block right)
+      → Refuses key rounds (bytesAfter hs roll) (grantGiven key rounds roll contractor block right out)
+  refused hs n b r = by (ltb (callCode key rounds (bytesAfter hs roll) (grantGiven key rounds roll contractor block right out) b r) 1000) refl
+    where
+      by : (t : Bool) → ltb (callCode key rounds (bytesAfter hs roll) (grantGiven key rounds roll contractor block right out) b r) 1000 ≡ t
+          → callCode key rounds (bytesAfter hs roll) (grantGiven key rounds roll contractor block right out) b r < 1000
+      by true t = ltb-true _ 1000 t
+      by false t =
+          let e = call-passed key rounds (bytesAfter hs roll) (grantGiven key rounds roll contractor block right out) b r (ltb-false _ 1000 t) .1 in
+          absurd (n b r ((λ j. checkNumber key rounds (sym (after-holds hs roll (i .roll-bytes) long .read) j) (sym given j) b r) ∙ e))
+
+pub call-issued-opens : CallIssuedOpens
+unfolding CallIssuedOpens
+call-issued-opens = opens
+
+pub calls-revoke : CallsRevoke
+unfolding CallsRevoke RevokedNeverOpens
+calls-revoke key rounds roll contractor block right out i hs w =
+    refused key rounds roll contractor block right out i hs
+    (revoked-never-opens key rounds (rollOf roll) contractor block right out (issued key rounds roll contractor block right out i) hs
+    (withdrawn-read w (i .roll-bytes) (long key rounds roll contractor block right out i)))
+
+pub calls-revoke-in-two-rooms : CallsRevokeInTwoRooms
+unfolding CallsRevokeInTwoRooms RevokedInTwoRooms
+calls-revoke-in-two-rooms key rounds roll contractor block right out i xs ys zs m w =
+    refused key rounds roll contractor block right out i zs
+    (revoked-in-two-rooms key rounds (rollOf roll) contractor block right out (issued key rounds roll contractor block right out i) xs ys zs m w)
+
+zeros-small : (n i : ℕ) → getD (replicate n 0) i 0 < 256
+zeros-small zero i = lit< tt
+zeros-small (suc n) zero = lit< tt
+zeros-small (suc n) (suc i) = zeros-small n i
+
+pub calls-revoke-something : CallsRevokeSomething
+unfolding CallsRevokeSomething bytesAfter called enterCallRoll first written answered rollOf countsOf rollBytes countsBytes countOf inStanding counted enteredRoll
+calls-revoke-something = (
+  record {
+    key-bytes = zeros-small 12;
+    roll-bytes = after-holds (enter 7 ∷ []) (replicate 400 0) (zeros-small 400) refl .small;
+    block-small = lit< tt;
+    number = refl;
+  },
+  here refl,
+)
