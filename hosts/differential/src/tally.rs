@@ -118,19 +118,19 @@ impl Tally {
                 true => self.answered(call, answer).to_string(),
                 false => "-".to_string(),
             };
-            row.push_str(&format!("{text:>7}"));
+            row.push_str(&format!("{text:>9}"));
         }
-        format!("{row}{:>9}", self.of(call))
+        format!("{row}{:>11}", self.of(call))
     }
 }
 
 impl fmt::Display for Tally {
     fn fmt(&self, out: &mut fmt::Formatter<'_>) -> fmt::Result {
-        write!(out, "{:<20}{:>7}", "call", "done")?;
+        write!(out, "{:<20}{:>9}", "call", "done")?;
         for answer in &COLUMNS[1..] {
-            write!(out, "{answer:>7}")?;
+            write!(out, "{answer:>9}")?;
         }
-        writeln!(out, "{:>9}", "cases")?;
+        writeln!(out, "{:>11}", "cases")?;
         for call in Call::ALL {
             writeln!(out, "{}", self.row(call))?;
         }
