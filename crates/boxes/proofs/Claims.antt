@@ -1,21 +1,19 @@
 -- A term of each type of specs/Claims.antt.
-use mathlib.Core.Logic.{inl, inr}
-use mathlib.Core.Path.{_≡_, refl, sym, ap, _∙_, subst}
+use mathlib.Core.Path.{_≡_, refl, sym, ap, _∙_}
 use mathlib.Core.Bool.{Bool, true, false}
 use mathlib.Core.List.{List, [], _∷_}
-use Prim.Native.Nat.{ℕ, zero, suc, _+_, _*_, _<_}
+use Prim.Native.Nat.{ℕ, _+_, _*_, _<_}
 use lib.Dec.{ltb, lit<}
-use lib.ListN.{length, getD, take, drop, replicate}
+use lib.ListN.{length, take, drop, replicate}
 use lib.Seq.{take-at}
 use borrow.Author.Tests.{ltb-true, ltb-false, eqb-true}
 use Rattle.refusal.specs.Tries.{first, written, answered, NoneHolds}
 use Rattle.refusal.proofs.Tries.{none-holds, none-given}
 use Rattle.refusal.proofs.Answers.{put}
-use Rattle.blocks.specs.Blocks.{AreBytes}
 use Rattle.cipher.specs.Cipher.{cipherBlock}
-use Rattle.roll.specs.declared.Roll.{Roll}
 use Rattle.roll.specs.Roll.{countOf, inStanding, counted, enteredRoll, countsOf, rollOf, countsBytes, rollBytes}
-use Rattle.histories.specs.Histories.{Change, enter, withdraw, rollAfter}
+use Rattle.histories.specs.Histories.{Change, enter, rollAfter}
+use Rattle.histories.proofs.Counts.{zeros-small}
 use Rattle.grant.specs.Calls.{issueTries, issuedGrant, checkNumber}
 use Rattle.revocation.specs.Claims.{Issued, OpensNothing, IssuedOpens, RevokedNeverOpens, RevokedInTwoRooms}
 use Rattle.revocation.proofs.Claims.{issued-opens, revoked-never-opens, revoked-in-two-rooms}
@@ -93,17 +91,12 @@ calls-revoke-in-two-rooms key rounds roll contractor block right out i xs ys zs 
     refused key rounds roll contractor block right out i zs
     (revoked-in-two-rooms key rounds (rollOf roll) contractor block right out (issued key rounds roll contractor block right out i) xs ys zs m w)
 
-zeros-small : (n i : ℕ) → getD (replicate n 0) i 0 < 256
-zeros-small zero i = lit< tt
-zeros-small (suc n) zero = lit< tt
-zeros-small (suc n) (suc i) = zeros-small n i
-
 pub calls-revoke-something : CallsRevokeSomething
 unfolding CallsRevokeSomething bytesAfter called enterCallRoll first written answered rollOf countsOf rollBytes countsBytes countOf inStanding counted enteredRoll
 calls-revoke-something = (
   record {
-    key-bytes = zeros-small 12;
-    roll-bytes = after-holds (enter 7 ∷ []) (replicate 400 0) (zeros-small 400) refl .small;
+    key-bytes = zeros-small (lit< tt) 12;
+    roll-bytes = after-holds (enter 7 ∷ []) (replicate 400 0) (zeros-small (lit< tt) 400) refl .small;
     block-small = lit< tt;
     number = refl;
   },

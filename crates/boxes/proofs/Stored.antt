@@ -11,7 +11,7 @@ use Rattle.refusal.specs.Tries.{Try, _unless_, first, written, answered}
 use Rattle.refusal.proofs.Tries.{first-passes}
 use Rattle.blocks.specs.Blocks.{AreBytes}
 use Rattle.roll.specs.declared.Roll.{Roll}
-use Rattle.roll.specs.Roll.{counted, enterTries, enterNumber, enteredRoll, withdrawTries, withdrawNumber, withdrawnRoll, rollOf, rollBytes}
+use Rattle.roll.specs.Roll.{counted, enterTries, enteredRoll, withdrawTries, withdrawnRoll, rollOf, rollBytes}
 use Rattle.roll.specs.Claims.{RollTellsBytes}
 use Rattle.roll.proofs.Claims.{roll-tells-bytes}
 use Rattle.roll.proofs.Pairs.{length-counts, counts-small, length-bytes, bytes-small}

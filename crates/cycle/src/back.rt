@@ -6,9 +6,9 @@ ghost use Rattle.field.specs.Field.{_⊕_, times, cubeRoot};
 ghost use Rattle.schedule.specs.Columns.{padded, columnRule};
 ghost use Rattle.schedule.specs.Stages.{unrotated, inverseStep};
 ghost use Rattle.sizes.specs.Sizes.{Sized};
-use schedule::byte_at;
-use schedule::next_column;
-use schedule::previous_column;
+use crate::columns::byte_at;
+use crate::columns::next_column;
+use crate::columns::previous_column;
 
 // c + 1 times the sum of a column.
 fn inverse_column_term(x: u8, y: u8, z: u8) -> u8

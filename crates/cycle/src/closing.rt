@@ -5,7 +5,7 @@ ghost use Prim.Native.Nat.{_*_};
 ghost use Rattle.schedule.specs.Columns.{plus, padded};
 ghost use Rattle.schedule.specs.Stages.{closingSum};
 ghost use Rattle.sizes.specs.Sizes.{Sized};
-use schedule::byte_at;
+use crate::columns::byte_at;
 
 const CLOSING_96: [u8; 24] = [
     18,

@@ -3,6 +3,7 @@
 
 mod back;
 mod closing;
+mod columns;
 
 ghost use mathlib.Core.Path.{_≡_};
 ghost use Prim.Native.Nat.{_*_, _<_};

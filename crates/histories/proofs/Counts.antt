@@ -136,14 +136,15 @@ unfolding rollAfter
 after-roll [] roll r = r
 after-roll (h ∷ hs) roll r = after-roll hs (changed h roll) (changed-roll h roll r)
 
-zeros-small : (n i : ℕ) → getD (replicate n 0) i 0 < 65536
-zeros-small zero i = lit< tt
-zeros-small (suc n) zero = lit< tt
-zeros-small (suc n) (suc i) = zeros-small n i
+-- zeros are below any bound
+pub zeros-small : {b : ℕ} → 0 < b → (n i : ℕ) → getD (replicate n 0) i 0 < b
+zeros-small h zero i = h
+zeros-small h (suc n) zero = h
+zeros-small h (suc n) (suc i) = zeros-small h n i
 
 pub empty-roll : IsRoll emptyRoll
 unfolding emptyRoll
-empty-roll = record { many = length-replicate {A = ℕ} 200 0; small = zeros-small 200 }
+empty-roll = record { many = length-replicate {A = ℕ} 200 0; small = zeros-small (lit< tt) 200 }
 
 -- ---- withdrawals
 withdrawal : {c : ℕ} {hs : List Change} {roll : Roll} → IsRoll roll → Withdrawn c hs roll → countOf roll c < countOf (rollAfter hs roll) c

@@ -1,11 +1,10 @@
 -- A term of each type of specs/Claims.antt.
 use mathlib.Core.Path.{refl}
-use Prim.Native.Nat.{ℕ, zero, suc, _<_}
-use lib.ListN.{getD, replicate}
+use Prim.Native.Nat.{_<_}
 use Rattle.refusal.specs.Tries.{first, answered}
 use Rattle.roll.specs.Roll.{emptyRoll, countOf, inStanding, counted, enteredRoll}
 use Rattle.histories.specs.Histories.{enter, changed, here, IsRoll}
-use Rattle.histories.proofs.Counts.{changed-roll, empty-roll}
+use Rattle.histories.proofs.Counts.{zeros-small, changed-roll, empty-roll}
 use mathlib.Core.Logic.{inl, inr}
 use mathlib.Core.List.{List}
 use lib.Dec.{lit<}
@@ -48,18 +47,13 @@ unfolding RevokedInTwoRooms
 revoked-in-two-rooms key rounds roll contractor block right out i xs ys zs m w =
     revoked-asked key rounds roll contractor block right out i zs (elim w [ inl l ↦ left-seen m l | inr r ↦ right-seen m r ])
 
-zeros-small : (n i : ℕ) → getD (replicate n 0) i 0 < 256
-zeros-small zero i = lit< tt
-zeros-small (suc n) zero = lit< tt
-zeros-small (suc n) (suc i) = zeros-small n i
-
 entered-7 : IsRoll (enteredRoll emptyRoll 7)
 unfolding changed
 entered-7 = changed-roll (enter 7) emptyRoll empty-roll
 
 pub revocation-happens : RevocationHappens
 unfolding RevocationHappens first answered emptyRoll countOf inStanding counted enteredRoll
-revocation-happens = (record { key-bytes = zeros-small 12; is-roll = entered-7; block-small = lit< tt; number = refl }, here refl)
+revocation-happens = (record { key-bytes = zeros-small (lit< tt) 12; is-roll = entered-7; block-small = lit< tt; number = refl }, here refl)
 
 pub others-undisturbed : OthersUndisturbed
 unfolding OthersUndisturbed

@@ -14,7 +14,7 @@ use Rattle.schedule.specs.Columns.{IsStage, plus, padded}
 use Rattle.schedule.specs.Stages.{linearStep, stage, subkeyOf}
 use Rattle.schedule.proofs.Columns.{as-stage}
 use Rattle.schedule.proofs.Keys.{a-key, key-length, length-stage}
-use Rattle.schedule.proofs.Padded.{padded-agrees, plus-agrees, subkey-agrees}
+use Rattle.schedule.proofs.Padded.{padded-agrees, plus-padded, subkey-agrees}
 use Rattle.period.specs.Repeated.{repeated}
 use Rattle.cycle.specs.Cycle.{following, preceding, addend, stageAfter, stageBefore}
 use Rattle.cycle.proofs.Agree.{inverse-agrees}
@@ -31,7 +31,7 @@ use Rattle.routes.proofs.Ring.{numberTo, numbers-below, arrives}
 padded-after : (t s : ℕ) (k : List ℕ) → length k ≡ 3 * (2 * t) → stageAfter t s (padded k) ≡ stageAfter t s k
 unfolding stageAfter
 padded-after t s k e =
-    ap (linearStep (2 * t)) (plus-agrees (2 * t) (padded k) (addend t s) k (addend t s) (padded-agrees (2 * t) k e) (λ i j hi hj. refl))
+    ap (linearStep (2 * t)) (plus-padded (2 * t) k (addend t s) e)
 
 padded-before : (t s : ℕ) (k : List ℕ) → length k ≡ 3 * (2 * t) → stageBefore t s (padded k) ≡ stageBefore t s k
 unfolding stageBefore

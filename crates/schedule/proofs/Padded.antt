@@ -57,6 +57,9 @@ unfolding plus
 plus-agrees n a b x y p q =
     fill-path n (λ i j. cell a i j ⊕ cell b i j) (λ i j. cell x i j ⊕ cell y i j) (λ i j hi hj. ap₂ bitXor (p i j hi hj) (q i j hi hj))
 
+pub plus-padded : (n : ℕ) (k a : List ℕ) → length k ≡ 3 * n → plus n (padded k) a ≡ plus n k a
+plus-padded n k a e = plus-agrees n (padded k) a k a (padded-agrees n k e) (λ i j hi hj. refl)
+
 pub step-agrees : (n : ℕ) (a b : List ℕ) → Agree n a b → linearStep n a ≡ linearStep n b
 unfolding linearStep moved
 step-agrees n a b p =
@@ -85,13 +88,13 @@ module _ (t : ℕ) (x k : List ℕ) (e : k ≡ padded x) (l : length x ≡ 3 * (
   plus-held a =
       ap (λ (y : List ℕ). plus (2 * t) y a ++ drop (6 * t) y) e
       ∙ padded-kept (6 * t) (plus (2 * t) (padded x) a) x (length-plus (2 * t) (padded x) a ∙ sixes) (l ∙ sixes)
-      ∙ ap padded (plus-agrees (2 * t) (padded x) a x a (padded-agrees (2 * t) x l) (λ i j hi hj. refl))
+      ∙ ap padded (plus-padded (2 * t) x a l)
 
   pub next-held : (a : List ℕ) → linearStep (2 * t) (plus (2 * t) k a) ++ drop (6 * t) k ≡ padded (linearStep (2 * t) (plus (2 * t) x a))
   next-held a =
       ap (λ (y : List ℕ). linearStep (2 * t) (plus (2 * t) y a) ++ drop (6 * t) y) e
       ∙ padded-kept (6 * t) (linearStep (2 * t) (plus (2 * t) (padded x) a)) x (length-step (2 * t) (plus (2 * t) (padded x) a) ∙ sixes) (l ∙ sixes)
-      ∙ ap (λ (y : List ℕ). padded (linearStep (2 * t) y)) (plus-agrees (2 * t) (padded x) a x a (padded-agrees (2 * t) x l) (λ i j hi hj. refl))
+      ∙ ap (λ (y : List ℕ). padded (linearStep (2 * t) y)) (plus-padded (2 * t) x a l)
 
 -- a subkey reads the first four columns
 pub subkey-agrees : (n : ℕ) (a b : List ℕ) → 4 ≤ n → Agree n a b → subkeyOf a ≡ subkeyOf b

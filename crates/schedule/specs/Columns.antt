@@ -1,6 +1,5 @@
 -- Keys and key stages as columns of three bytes, and the column rule: document 01, "The layers" and "Key stages"; paper 000,
 -- sections 3.5 and 3.7. A stage of n columns is a list of 3n bytes: byte i + 3j is row i, column j.
-use mathlib.Core.Path.{_≡_}
 use mathlib.Core.List.{List, [], _∷_, _++_}
 use Prim.Native.Nat.{ℕ, zero, suc, _+_, _-_, _*_, _<_}
 use lib.ListN.{getD, length, replicate}
@@ -39,8 +38,3 @@ ruleByte m x x₀ x₁ x₂ = x ⊕ times m (x₀ ⊕ (x₁ ⊕ x₂))
 -- the column rule on each of n columns (the paper's mu): with m = c, and its inverse with m = c + 1
 unfoldable pub columnRule : ℕ → ℕ → List ℕ → List ℕ
 columnRule m n k = fill n (λ i j. ruleByte m (cell k i j) (cell k 0 j) (cell k 1 j) (cell k 2 j))
-
--- what the code knows of a column r that it computed: it is j, and one of n
-pub record Place (r j n : ℕ) : Type 0 where
-  pub is : r ≡ j
-  pub below : r < n

@@ -4,10 +4,7 @@ mod column;
 mod stage;
 
 pub use stage::add_constant;
-pub use stage::byte_at;
 pub use stage::linear_step;
-pub use stage::next_column;
 pub use stage::next_stage;
-pub use stage::previous_column;
 pub use stage::stage_of_key;
 pub use stage::subkey;

@@ -7,34 +7,10 @@ ghost use mathlib.Core.List.{_++_};
 ghost use Prim.Native.Nat.{_+_, _*_, _≤_, _<_};
 ghost use lib.Dec.{ltb};
 ghost use lib.ListN.{length, drop};
-ghost use Rattle.schedule.specs.Columns.{cell, plus, padded, Place};
-ghost use Rattle.schedule.specs.Stages.{next, previous, linearStep, constant, subkeyOf};
+ghost use Rattle.schedule.specs.Columns.{cell, plus, padded};
+ghost use Rattle.schedule.specs.Stages.{linearStep, constant, subkeyOf};
 ghost use Rattle.sizes.specs.Sizes.{Sized};
 use crate::column::column_term;
-
-// The column after j around n columns.
-pub fn next_column(n: usize, j: usize) -> usize
-    requires { ⌜ j < n ⌝ }
-    ensures { λ r. ⌜ Place r (next n j) n ⌝ }
-{
-    if j + 1 < n { j + 1 } else { 0 }
-}
-
-// The column before j around n columns.
-pub fn previous_column(n: usize, j: usize) -> usize
-    requires { ⌜ j < n ⌝ }
-    ensures { λ r. ⌜ Place r (previous n j) n ⌝ }
-{
-    if 0 < j { j - 1 } else { n - 1 }
-}
-
-// The byte in row i, column j.
-pub fn byte_at(k: &[u8; 24], i: usize, j: usize) -> u8
-    requires { ⌜ (i < 3) × (j < 8) ⌝ }
-    ensures { λ r. ⌜ r ≡ cell (now (k .entry)) i j ⌝ }
-{
-    k[i + 3 * j]
-}
 
 // Row 1 of the column after j, from a stage whose columns before j are written already; first is row 1 of the first column as it was.
 fn row_one_after(n: usize, j: usize, k: &[u8; 24], first: u8) -> u8

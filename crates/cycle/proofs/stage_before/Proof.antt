@@ -1,13 +1,13 @@
 -- `cycle::stage_before` meets its contract.
-use mathlib.Core.Path.{_≡_, refl, sym, ap, _∙_}
+use mathlib.Core.Path.{_≡_, sym, ap, _∙_}
 use mathlib.Core.List.{List}
 use Prim.Native.Nat.{ℕ, _*_}
 use native.Mathlib.Omega.{arith}
 use lib.ListN.{length}
 use Rattle.schedule.specs.Columns.{plus, padded}
-use Rattle.schedule.specs.Stages.{inverseStep, constant, moved}
+use Rattle.schedule.specs.Stages.{inverseStep, constant, closingSum, moved}
 use Rattle.schedule.proofs.Columns.{length-columns}
-use Rattle.schedule.proofs.Padded.{length-padded, padded-agrees, plus-agrees, plus-held}
+use Rattle.schedule.proofs.Padded.{length-padded, plus-padded, plus-held}
 use Rattle.cycle.specs.Cycle.{stageBefore}
 use Rattle.cycle.proofs.Addends.{addend-to, addend-to-first}
 use borrow.Author.Needs.{needs}
@@ -17,13 +17,6 @@ use Rattle.cycle.proofs.stage_before.Tie as tie
 length-inverse : (n : ℕ) (k : List ℕ) → length (inverseStep n k) ≡ 3 * n
 unfolding inverseStep moved
 length-inverse n k = length-columns _ 0 n
-
--- a sum over the inverse step in 24 bytes
-summed : (t : ℕ) (k x a : List ℕ) → x ≡ padded (inverseStep (2 * t) k) → padded (plus (2 * t) x a) ≡ padded (plus (2 * t) (inverseStep (2 * t) k) a)
-summed t k x a e =
-    let y = inverseStep (2 * t) k in
-    ap (λ (x : List ℕ). padded (plus (2 * t) x a)) e
-    ∙ ap padded (plus-agrees (2 * t) (padded y) a y a (padded-agrees (2 * t) y (length-inverse (2 * t) k)) (λ i j hi hj. refl))
 
 inverse-step-requires : tie.Need-inverse-step-requires
 inverse-step-requires c κs = search needs
@@ -55,7 +48,9 @@ returns-2 c =
     let t = c .before .before .before .args .t in
     let s = c .before .before .before .args .s in
     let k = c .before .before .before .args .k in
-    c .add-closing .ensures ∙ summed t k _ _ (c .before .before .inverse-step .ensures)
+    c .add-closing .ensures
+    ∙ ap (λ (x : List ℕ). padded (plus (2 * t) x (closingSum t))) (c .before .before .inverse-step .ensures)
+    ∙ ap padded (plus-padded (2 * t) (inverseStep (2 * t) k) (closingSum t) (length-inverse (2 * t) k))
     ∙ ap (λ (a : List ℕ). padded (plus (2 * t) (inverseStep (2 * t) k) a)) (sym (addend-to-first t s (omega arith) (omega arith)))
 
 pub stage-before-spec : {M : Type 1} → statement M

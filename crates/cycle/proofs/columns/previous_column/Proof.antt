@@ -1,9 +1,9 @@
--- `schedule::stage::previous_column` meets its contract.
+-- `cycle::columns::previous_column` meets its contract.
 use native.Mathlib.Omega.{arith}
 use Rattle.schedule.proofs.Places.{previous-back, previous-around}
 use borrow.Author.Needs.{needs}
-use Rattle.schedule.proofs.stage.previous_column.Statement.{statement}
-use Rattle.schedule.proofs.stage.previous_column.Tie as tie
+use Rattle.cycle.proofs.columns.previous_column.Statement.{statement}
+use Rattle.cycle.proofs.columns.previous_column.Tie as tie
 
 sub-result : tie.Need-sub-result
 sub-result c = search needs

@@ -1,9 +1,9 @@
--- `schedule::stage::next_column` meets its contract.
+-- `cycle::columns::next_column` meets its contract.
 use native.Mathlib.Omega.{arith}
 use Rattle.schedule.proofs.Places.{next-on, next-around}
 use borrow.Author.Needs.{needs}
-use Rattle.schedule.proofs.stage.next_column.Statement.{statement}
-use Rattle.schedule.proofs.stage.next_column.Tie as tie
+use Rattle.cycle.proofs.columns.next_column.Statement.{statement}
+use Rattle.cycle.proofs.columns.next_column.Tie as tie
 
 add-if1 : tie.Need-add-if1
 add-if1 c = search needs
