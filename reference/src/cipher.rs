@@ -49,7 +49,7 @@ fn checked_subkeys(key: &[u8], rounds: usize) -> Result<Vec<State>, Error> {
 }
 
 /// The state that a block of 12 bytes stands for, by columns.
-fn state_of(block: &[u8]) -> Result<State, Error> {
+pub(crate) fn state_of(block: &[u8]) -> Result<State, Error> {
     Matrix::from_bytes(block).ok_or(Error::BlockLength(block.len()))
 }
 

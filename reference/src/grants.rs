@@ -198,7 +198,7 @@ impl<'a> Log<'a> {
 
 /// The field for the number of a call: 0, or the number of the reason for which it
 /// is refused.
-fn number_of<T>(result: &Result<T, Refusal>) -> String {
+pub(crate) fn number_of<T>(result: &Result<T, Refusal>) -> String {
     match result {
         Ok(_) => DONE.to_string(),
         Err(refusal) => refusal.number().to_string(),

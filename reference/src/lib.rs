@@ -8,6 +8,7 @@
 
 #![forbid(unsafe_code)]
 
+pub mod answers;
 pub mod cipher;
 pub mod error;
 pub mod field;

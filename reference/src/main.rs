@@ -1,7 +1,7 @@
 //! Prints vectors of the reference implementation as plain text on standard
 //! output. What each subcommand prints, and the order in which it draws its
-//! inputs, stands at the top of `vectors.rs`, `routes.rs` and `grants.rs` and in
-//! README.md.
+//! inputs, stands at the top of `vectors.rs`, `routes.rs`, `grants.rs` and
+//! `answers.rs` and in README.md.
 
 #![forbid(unsafe_code)]
 
@@ -10,9 +10,9 @@ use std::io::{self, Write};
 use std::process::ExitCode;
 
 use curupira_reference::error::Error;
-use curupira_reference::{grants, routes, vectors};
+use curupira_reference::{answers, grants, routes, vectors};
 
-const USAGE: &str = "usage: reference sbox|layers|rounds|blocks|stages|routes|grants";
+const USAGE: &str = "usage: reference sbox|layers|rounds|blocks|stages|routes|grants|answers";
 
 /// Exit status for bad usage.
 const BAD_USAGE: u8 = 2;
@@ -43,6 +43,7 @@ fn subcommand(arguments: &[OsString]) -> Option<fn() -> Result<String, Error>> {
             "stages" => Some(vectors::stages_text),
             "routes" => Some(routes::routes_text),
             "grants" => Some(grants::grants_text),
+            "answers" => Some(answers::answers_text),
             _ => None,
         },
         _ => None,

@@ -16,6 +16,9 @@
 //! A grant is one block of 12 bytes: the plain bytes, enciphered under the key and
 //! the number of rounds. Number 4, for an output that is too short, does not occur:
 //! a grant is returned and not written to a place that the caller chose.
+//!
+//! A roll in bytes is the counts of the contractors in order, that of contractor 1
+//! first, two bytes each, big end first. A whole roll has 400 bytes.
 
 use crate::cipher::{allowed_rounds, decrypt, encrypt};
 
@@ -242,6 +245,31 @@ impl Default for Roll {
     fn default() -> Self {
         Roll::new()
     }
+}
+
+/// The counts of contractors 1, 2, ... read from a roll in bytes, two for each. An
+/// odd number of bytes gives none. Not only a whole roll can be read.
+pub fn counts_from_bytes(bytes: &[u8]) -> Option<Vec<u16>> {
+    if bytes.len() % 2 == 0 {
+        let counts = bytes.chunks(2).map(|pair| joined(pair[0], pair[1]));
+        Some(counts.collect())
+    } else {
+        None
+    }
+}
+
+/// The count that two bytes stand for, big end first.
+fn joined(high: u8, low: u8) -> u16 {
+    256 * u16::from(high) + u16::from(low)
+}
+
+/// The counts of contractors 1, 2, ... written as a roll in bytes, two for each.
+/// Not only a whole roll can be written.
+pub fn counts_to_bytes(counts: &[u16]) -> Vec<u8> {
+    counts
+        .iter()
+        .flat_map(|count| count.to_be_bytes())
+        .collect()
 }
 
 /// Whether a contractor with this count is in standing.

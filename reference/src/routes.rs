@@ -64,7 +64,7 @@ pub enum Way {
 
 impl Way {
     /// The word for the way in the log.
-    fn word(self) -> &'static str {
+    pub(crate) fn word(self) -> &'static str {
         match self {
             Way::Forward => "forward",
             Way::Back => "back",

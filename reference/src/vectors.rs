@@ -1,5 +1,6 @@
 //! The vectors that the program prints, as plain text; those of `routes` are in
-//! `routes.rs`, and those of `grants` in `grants.rs`.
+//! `routes.rs`, those of `grants` in `grants.rs`, and those of `answers` in
+//! `answers.rs`.
 //!
 //! Every subcommand has a generator of its own that starts from seed 1 and
 //! draws bytes for inputs only, in the order in which they are first printed. A
@@ -47,7 +48,7 @@ pub(crate) fn matrix_hex<const N: usize>(matrix: &Matrix<N>) -> String {
 }
 
 /// A list of states as hexadecimal digits, one after the other.
-fn list_hex(states: &[State]) -> String {
+pub(crate) fn list_hex(states: &[State]) -> String {
     states.iter().map(matrix_hex).collect()
 }
 

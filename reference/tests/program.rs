@@ -63,7 +63,15 @@ fn the_generator_starts_as_documented() {
 
 #[test]
 fn bad_usage_ends_with_status_two() {
-    let wrong: [&[&str]; 5] = [&[], &["other"], &[""], &["SBOX"], &["sbox", "layers"]];
+    let wrong: [&[&str]; 7] = [
+        &[],
+        &["other"],
+        &[""],
+        &["SBOX"],
+        &["sbox", "layers"],
+        &["answer"],
+        &["answers", "grants"],
+    ];
     for arguments in wrong {
         let output = run(arguments);
         assert_eq!(output.status.code(), Some(2));
@@ -232,4 +240,56 @@ fn grants_draws_its_inputs_as_documented() {
         }
     }
     assert!(rest.next().is_none());
+}
+
+/// The names of the lines of answers, each with how many there are of it and how many
+/// fields they have, the name being one of them.
+const ANSWERS: [(&str, usize, usize); 12] = [
+    ("limits", 3, 4),
+    ("roll", 1, 6),
+    ("rollbytes", 1, 6),
+    ("block", 1, 5),
+    ("stage", 9, 5),
+    ("closing", 3, 3),
+    ("list", 1, 4),
+    ("turned", 1, 4),
+    ("plain", 2, 6),
+    ("walk", 11, 6),
+    ("standing", 7, 3),
+    ("order", 13, 5),
+];
+
+#[test]
+fn answers_prints_the_documented_lines() {
+    let printed = lines("answers");
+    let mut rest = printed.iter();
+    for (name, count, fields) in ANSWERS {
+        for _ in 0..count {
+            let line = rest.next().expect("there are more lines");
+            assert_eq!((line[0].as_str(), line.len()), (name, fields));
+        }
+    }
+    assert!(rest.next().is_none());
+}
+
+#[test]
+fn answers_has_the_keys_of_the_documentation() {
+    let longest = "0f1e2d3c4b5a69788796a5b4c3d2e1f00112233445566770";
+    let printed = lines("answers");
+    let mut rest = printed.iter().filter(|line| line[0] == "stage");
+    for (key_length, _, _) in SIZES {
+        for s in [1, 2, key_length - 1] {
+            let line = rest.next().expect("there are more stages");
+            let key = &longest[..2 * key_length];
+            assert_eq!(line[1..3], [key, &s.to_string()]);
+            assert_eq!((line[3].len(), line[4].len()), (2 * key_length, 24));
+        }
+    }
+    assert!(rest.next().is_none());
+    for name in ["list", "turned"] {
+        let line = printed.iter().find(|line| line[0] == name);
+        let line = line.expect("there is such a line");
+        assert_eq!(line[1..3], [&longest[..24], "10"]);
+        assert_eq!(line[3].len(), 11 * 24);
+    }
 }

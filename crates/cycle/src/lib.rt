@@ -6,35 +6,35 @@ mod closing;
 mod columns;
 
 ghost use mathlib.Core.Path.{_≡_};
-ghost use Prim.Native.Nat.{_*_, _<_};
+ghost use Prim.Native.Nat.{_<_};
 ghost use Rattle.schedule.specs.Columns.{padded};
-ghost use Rattle.sizes.specs.Sizes.{Sized};
+ghost use Rattle.sizes.specs.Sizes.{turn, Sized};
 ghost use Rattle.cycle.specs.Cycle.{following, preceding, stageAfter, stageBefore};
 use back::inverse_step;
 use closing::add_closing;
 
 // The number after s around the turn.
 pub fn number_after(t: usize, s: usize) -> usize
-    requires { ⌜ Sized t × (s < 6 * t) ⌝ }
+    requires { ⌜ Sized t × (s < turn t) ⌝ }
     ensures { λ r. ⌜ r ≡ following t s ⌝ }
 {
-    if s + 1 < 6 * t { s + 1 } else { 0 }
+    if s + 1 < sizes::turn_for(t) { s + 1 } else { 0 }
 }
 
 // The number before s around the turn.
 pub fn number_before(t: usize, s: usize) -> usize
-    requires { ⌜ Sized t × (s < 6 * t) ⌝ }
+    requires { ⌜ Sized t × (s < turn t) ⌝ }
     ensures { λ r. ⌜ r ≡ preceding t s ⌝ }
 {
-    if 0 < s { s - 1 } else { 6 * t - 1 }
+    if 0 < s { s - 1 } else { sizes::turn_for(t) - 1 }
 }
 
 // The stage after stage s, which is k.
 pub fn stage_after(t: usize, s: usize, k: [u8; 24]) -> [u8; 24]
-    requires { ⌜ Sized t × (s < 6 * t) ⌝ }
+    requires { ⌜ Sized t × (s < turn t) ⌝ }
     ensures { λ r. ⌜ r ≡ padded (stageAfter t s k) ⌝ }
 {
-    if s + 1 < 6 * t {
+    if s + 1 < sizes::turn_for(t) {
         let end = 6 * t;
         let mut next = schedule::stage_of_key(&k[..end]);
         schedule::next_stage(t, s + 1, &mut next);
@@ -47,7 +47,7 @@ pub fn stage_after(t: usize, s: usize, k: [u8; 24]) -> [u8; 24]
 
 // The stage before stage s, which is k.
 pub fn stage_before(t: usize, s: usize, k: [u8; 24]) -> [u8; 24]
-    requires { ⌜ Sized t × (s < 6 * t) ⌝ }
+    requires { ⌜ Sized t × (s < turn t) ⌝ }
     ensures { λ r. ⌜ r ≡ padded (stageBefore t s k) ⌝ }
 {
     let mut sum = inverse_step(t, k);

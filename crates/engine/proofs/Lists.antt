@@ -7,7 +7,7 @@ use native.Mathlib.Omega.{arith}
 use lib.Dec.{leb, eqb}
 use lib.ListN.{length, getD, drop}
 use lib.Seq.{drop-cons, drop-length}
-use borrow.Author.Tests.{le-leb, lt-leb, leb-true}
+use borrow.Author.Tests.{le-leb, lt-leb, leb-true, eqb-true}
 use Rattle.refusal.proofs.Tests.{and-first, and-second}
 use Rattle.layers.specs.State.{State}
 use Rattle.layers.specs.Layers.{added}
@@ -28,6 +28,7 @@ within n l h = sym (ap₂ (λ (a b : Bool). a && (b && eqb (n % 12) 0)) (le-leb 
 pub record Whole (n : ℕ) : Type 0 where
   pub least : 132 ≤ n
   pub most : n ≤ 288
+  pub twelves : n % 12 ≡ 0
 
 pub whole : (n : ℕ) → listLength n ≡ true → Whole n
 whole n e =
@@ -35,6 +36,7 @@ whole n e =
     record {
       least = leb-true 132 n (and-first (leb 132 n) (leb n 288 && eqb (n % 12) 0) e);
       most = leb-true n 288 (and-first (leb n 288) (eqb (n % 12) 0) later);
+      twelves = eqb-true (n % 12) 0 (and-second (leb n 288) (eqb (n % 12) 0) later);
     }
 
 -- ---- the rounds from subkey r on

@@ -14,7 +14,6 @@ use Rattle.holder.specs.declared.Way.{Way}
 use Rattle.holder.specs.declared.Way.the-variants.{Forward, Back}
 use Rattle.holder.specs.Holder.{sizeHeld, whole, stepped, stepsForward, ringDistance, wayTo, walked}
 use Rattle.holder.specs.Calls.{walkTries, walkNumber, walkHolder, walkSteps, walkWay}
-use Rattle.holder.proofs.Whole.{a-whole, turn-held}
 
 -- ---- the shorter way
 pub ring-forward : (t s d : ℕ) → stepsForward t s d ≤ 3 * t → (ringDistance t s d ≡ stepsForward t s d) × (wayTo t s d ≡ Forward)
@@ -56,27 +55,22 @@ module _ (h : Holder) (d : ℕ) where
     ),
   )
 
-  module _ (w : whole h ≡ true) (b : d < h .length) where
+  -- the code's turn is n
+  module _ (n : ℕ) (turns : n ≡ turn (sizeHeld h)) (w : whole h ≡ true) (b : d < n) where
     pub walk-allowed : walkNumber h d ≡ 0
-    walk-allowed =
-        let t = turn-held h (a-whole h w) in
-        first-passes _ _ w ∙ first-passes _ [] (lt-ltb d (turn (sizeHeld h)) (omega arith)) ∙ none-given [] tt
+    walk-allowed = first-passes _ _ w ∙ first-passes _ [] (lt-ltb d (turn (sizeHeld h)) (omega arith)) ∙ none-given [] tt
 
-    -- the code counts around the key's length, which is the turn
-    counted : (d + (h .length - h .number)) % h .length ≡ stepsForward (sizeHeld h) (h .number) d
-    counted = ap (λ (n : ℕ). (d + (n - h .number)) % n) (sym (turn-held h (a-whole h w)))
+    counted : (d + (n - h .number)) % n ≡ stepsForward (sizeHeld h) (h .number) d
+    counted = ap (λ (m : ℕ). (d + (m - h .number)) % m) turns
 
-    pub walk-forward : (f : ℕ) → f ≡ (d + (h .length - h .number)) % h .length → f ≤ h .length / 2 → Answers h d (repeated f (stepped Forward) h) f Forward
+    pub walk-forward : (f : ℕ) → f ≡ (d + (n - h .number)) % n → f ≤ n / 2 → Answers h d (repeated f (stepped Forward) h) f Forward
     walk-forward f e l =
-        let t = turn-held h (a-whole h w) in
         let z : f ≡ stepsForward (sizeHeld h) (h .number) d = e ∙ counted in
         let r = ring-forward (sizeHeld h) (h .number) d (omega arith) in
         walk-done f Forward walk-allowed (r .0 ∙ sym z) (r .1) (omega arith)
 
-    pub walk-back : (f : ℕ) → f ≡ (d + (h .length - h .number)) % h .length → h .length / 2 < f
-        → Answers h d (repeated (h .length - f) (stepped Back) h) (h .length - f) Back
+    pub walk-back : (f : ℕ) → f ≡ (d + (n - h .number)) % n → n / 2 < f → Answers h d (repeated (n - f) (stepped Back) h) (n - f) Back
     walk-back f e l =
-        let t = turn-held h (a-whole h w) in
         let z : f ≡ stepsForward (sizeHeld h) (h .number) d = e ∙ counted in
         let r = ring-back (sizeHeld h) (h .number) d (omega arith) in
-        walk-done (h .length - f) Back walk-allowed (r .0 ∙ ap₂ _-_ t (sym z)) (r .1) (omega arith)
+        walk-done (n - f) Back walk-allowed (r .0 ∙ ap₂ _-_ (sym turns) (sym z)) (r .1) (omega arith)

@@ -12,7 +12,7 @@ use Rattle.sizes.specs.Sizes.{Sized, keyLength, turn}
 use Rattle.schedule.specs.Columns.{columnRule}
 use Rattle.schedule.specs.Stages.{linearStep}
 use Rattle.schedule.proofs.Columns.{length-columns}
-use Rattle.schedule.proofs.Keys.{a-key}
+use Rattle.sizes.proofs.Keys.{a-key}
 use Rattle.schedule.proofs.Padded.{length-plus}
 use Rattle.cycle.specs.Cycle.{stageAfter, stageBefore}
 use Rattle.cycle.proofs.Addends.{following-below, preceding-below}
@@ -42,18 +42,18 @@ pub is-whole : (h : Holder) → Whole h → whole h ≡ true
 unfolding whole
 is-whole h w = both _ _ _ (w .key) (lt-ltb _ _ (w .below)) (w .zeros)
 
--- as the code tries it, with the key's length for the turn
+-- as the code tries it
 pub not-key : (h : Holder) → keyLength (h .length) ≡ false → whole h ≡ false
 unfolding whole
 not-key h e = rw e
 
-pub not-below : (h : Holder) → keyLength (h .length) ≡ true → h .length ≤ h .number → whole h ≡ false
+pub not-below : (h : Holder) → keyLength (h .length) ≡ true → turn (sizeHeld h) ≤ h .number → whole h ≡ false
 unfolding whole
-not-below h e l = rw (e, le-ltb (h .number) (turn (sizeHeld h)) (omega (arith, a-key (h .length) e .is)))
+not-below h e l = rw (e, le-ltb (h .number) (turn (sizeHeld h)) l)
 
-pub below-zeros : (h : Holder) → keyLength (h .length) ≡ true → h .number < h .length → whole h ≡ allZero (drop (h .length) (h .bytes))
+pub below-zeros : (h : Holder) → keyLength (h .length) ≡ true → h .number < turn (sizeHeld h) → whole h ≡ allZero (drop (h .length) (h .bytes))
 unfolding whole
-below-zeros h e l = rw (e, lt-ltb (h .number) (turn (sizeHeld h)) (omega (arith, a-key (h .length) e .is)))
+below-zeros h e l = rw (e, lt-ltb (h .number) (turn (sizeHeld h)) l)
 
 -- a whole holder's t, and that its turn is its length
 pub size-held : (h : Holder) → Whole h → Sized (sizeHeld h)

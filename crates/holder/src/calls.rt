@@ -47,7 +47,7 @@ pub fn straight(key: &[u8], n: usize) -> Held
             holder: blank_holder(),
         };
     }
-    if key.len() <= n {
+    if sizes::turn_of_key(key.len()) <= n {
         return Held {
             outcome: Outcome::Refused(Reason::StageOrList),
             holder: blank_holder(),
@@ -115,7 +115,7 @@ pub fn walk(h: Holder, d: usize) -> Walked
     if !is_whole(h) {
         return refused_walk(Reason::BrokenHolder, h);
     }
-    let turn = h.length;
+    let turn = sizes::turn_of_key(h.length);
     if turn <= d {
         return refused_walk(Reason::StageOrList, h);
     }

@@ -22,7 +22,7 @@ fn zeros_from(bytes: &[u8], n: usize) -> bool
     true
 }
 
-// A holder that is not refused with 24. The turn is as long as the key.
+// A holder that is not refused with 24.
 pub fn is_whole(h: Holder) -> bool
     ensures { λ r. ⌜ r ≡ whole h ⌝ }
 {
@@ -32,7 +32,7 @@ pub fn is_whole(h: Holder) -> bool
     if !sizes::is_key_length(length) {
         return false;
     }
-    if length <= number {
+    if sizes::turn_of_key(length) <= number {
         return false;
     }
     zeros_from(&bytes, length)

@@ -26,7 +26,7 @@ use Rattle.lists.specs.declared.Direction.{Direction}
 use Rattle.lists.specs.declared.Direction.the-variants.{Enciphering, Deciphering}
 use Rattle.lists.specs.Lists.{subkey, subkeys, listFor}
 use Rattle.lists.specs.Sized.{Fits}
-use Rattle.schedule.proofs.Keys.{a-key}
+use Rattle.sizes.proofs.Keys.{a-key}
 
 -- ---- what allowed settings say
 pub record Allowed (n rounds : ℕ) : Type 0 where

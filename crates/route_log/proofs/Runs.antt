@@ -17,7 +17,8 @@ use Rattle.blocks.specs.Blocks.{AreBytes}
 use Rattle.sizes.specs.Sizes.{keyLength, sizeOf, turn}
 use Rattle.schedule.specs.Columns.{padded}
 use Rattle.schedule.specs.Stages.{stage}
-use Rattle.schedule.proofs.Keys.{a-key, key-length, length-stage}
+use Rattle.sizes.proofs.Keys.{a-key}
+use Rattle.schedule.proofs.Keys.{key-length, length-stage}
 use Rattle.holder.specs.declared.Holder.{Holder}
 use Rattle.holder.specs.Holder.{holderAt, blank}
 use Rattle.holder.specs.Calls.{makeTries, makeNumber, madeHolder}

@@ -13,7 +13,8 @@ use Rattle.sizes.specs.Sizes.{keyLength, sizeOf, turn}
 use Rattle.schedule.specs.Columns.{IsStage, plus, padded}
 use Rattle.schedule.specs.Stages.{linearStep, stage, subkeyOf}
 use Rattle.schedule.proofs.Columns.{as-stage}
-use Rattle.schedule.proofs.Keys.{a-key, key-length, length-stage}
+use Rattle.sizes.proofs.Keys.{a-key}
+use Rattle.schedule.proofs.Keys.{key-length, length-stage}
 use Rattle.schedule.proofs.Padded.{padded-agrees, plus-padded, subkey-agrees}
 use Rattle.period.specs.Repeated.{repeated}
 use Rattle.cycle.specs.Cycle.{following, preceding, addend, stageAfter, stageBefore}

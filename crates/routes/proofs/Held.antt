@@ -16,7 +16,7 @@ use Rattle.sizes.specs.Sizes.{keyLength, sizeOf, turn}
 use Rattle.schedule.specs.Columns.{IsStage, padded}
 use Rattle.schedule.specs.Stages.{stage}
 use Rattle.schedule.proofs.Columns.{as-stage, stage-byte}
-use Rattle.schedule.proofs.Keys.{a-key}
+use Rattle.sizes.proofs.Keys.{a-key}
 use Rattle.schedule.proofs.Padded.{stage-length}
 use Rattle.period.specs.Repeated.{repeated}
 use Rattle.cycle.proofs.Around.{of-key}

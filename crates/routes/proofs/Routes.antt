@@ -10,7 +10,7 @@ use borrow.Author.Tests.{lt-ltb, le-ltb}
 use Rattle.refusal.proofs.Tests.{below-or-not}
 use Rattle.blocks.specs.Blocks.{AreBytes}
 use Rattle.sizes.specs.Sizes.{keyLength, sizeOf, turn}
-use Rattle.schedule.proofs.Keys.{a-key}
+use Rattle.sizes.proofs.Keys.{a-key}
 use Rattle.cycle.proofs.Addends.{following-below, preceding-below}
 use Rattle.holder.specs.declared.Holder.{Holder}
 use Rattle.holder.specs.declared.Way.the-variants.{Forward, Back}

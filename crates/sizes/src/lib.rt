@@ -2,9 +2,9 @@
 
 ghost use mathlib.Core.Path.{_≡_};
 ghost use mathlib.Core.Bool.{true};
-ghost use Rattle.sizes.specs.Sizes.{keyLength, sizeFor, sizeOf, roundsAllowed};
+ghost use Rattle.sizes.specs.Sizes.{turn, keyLength, sizeFor, sizeOf, roundsAllowed, Sized};
 
-// A row of the table of key sizes. A turn is as many stages as the key has bytes.
+// A row of the table of key sizes.
 pub struct KeySize {
     pub turn: usize,
     pub least: usize,
@@ -15,6 +15,8 @@ pub struct KeySize {
 pub struct Key96 {}
 
 impl Key96 {
+    pub const KEY_BYTES: usize = 12;
+
     pub const TURN: usize = 12;
 
     pub const LEAST_ROUNDS: usize = 10;
@@ -36,6 +38,8 @@ impl Key96 {
 pub struct Key144 {}
 
 impl Key144 {
+    pub const KEY_BYTES: usize = 18;
+
     pub const TURN: usize = 18;
 
     pub const LEAST_ROUNDS: usize = 14;
@@ -57,6 +61,8 @@ impl Key144 {
 pub struct Key192 {}
 
 impl Key192 {
+    pub const KEY_BYTES: usize = 24;
+
     pub const TURN: usize = 24;
 
     pub const LEAST_ROUNDS: usize = 18;
@@ -77,27 +83,52 @@ impl Key192 {
 pub fn is_key_length(n: usize) -> bool
     ensures { λ r. ⌜ r ≡ keyLength n ⌝ }
 {
-    if n == Key96::TURN {
+    if n == Key96::KEY_BYTES {
         return true;
     }
-    if n == Key144::TURN {
+    if n == Key144::KEY_BYTES {
         return true;
     }
-    n == Key192::TURN
+    n == Key192::KEY_BYTES
 }
 
-// The size of a key of n bytes.
+// The table's row for t.
+pub fn size_for(t: usize) -> KeySize
+    requires { ⌜ Sized t ⌝ }
+    ensures { λ r. ⌜ r ≡ sizeFor t ⌝ }
+{
+    if t == 2 {
+        return Key96::size();
+    }
+    if t == 3 {
+        return Key144::size();
+    }
+    Key192::size()
+}
+
+// The table's row for a key of n bytes.
 pub fn size_of_key(n: usize) -> KeySize
     requires { ⌜ keyLength n ≡ true ⌝ }
     ensures { λ r. ⌜ r ≡ sizeFor (sizeOf n) ⌝ }
 {
-    if n == Key96::TURN {
-        return Key96::size();
-    }
-    if n == Key144::TURN {
-        return Key144::size();
-    }
-    Key192::size()
+    size_for(n / 6)
+}
+
+// The number of stages in a turn, for t.
+pub fn turn_for(t: usize) -> usize
+    requires { ⌜ Sized t ⌝ }
+    ensures { λ r. ⌜ r ≡ turn t ⌝ }
+{
+    let size = size_for(t);
+    size.turn
+}
+
+// The number of stages in a turn, for a key of n bytes.
+pub fn turn_of_key(n: usize) -> usize
+    requires { ⌜ keyLength n ≡ true ⌝ }
+    ensures { λ r. ⌜ r ≡ turn (sizeOf n) ⌝ }
+{
+    turn_for(n / 6)
 }
 
 // The table's row for a key of n bytes allows this many rounds.

@@ -18,8 +18,8 @@ use Rattle.cycle.proofs.stage_after.Tie as tie
 add-if1 : tie.Need-add-if1
 add-if1 c = search needs
 
-mul-if1 : tie.Need-mul-if1
-mul-if1 c = search needs
+turn-for-requires : tie.Need-turn-for-requires
+turn-for-requires c κs = search needs
 
 mul-end : tie.Need-mul-end
 mul-end c = search needs
@@ -30,13 +30,13 @@ array-share-prefix-k c = search needs
 -- the columns that are copied
 slice-aggregate-stage-of-key : tie.Need-slice-aggregate-stage-of-key
 slice-aggregate-stage-of-key c =
-    let p = c .before .before in
+    let p = c .before .before .before in
     let l : length (p .args .t3) ≡ 24 = p .good .1 .1 .0 .1 .0 .1 in
     sym (length-take-le (6 * p .args .t) (p .args .t3) (omega (arith, p .pre .0 .most, l)))
 
 stage-of-key-requires : tie.Need-stage-of-key-requires
 stage-of-key-requires c κs =
-    let p = c .before .before in
+    let p = c .before .before .before in
     let l : length (p .args .t3) ≡ 24 = p .good .1 .1 .0 .1 .0 .1 in
     omega (arith, p .pre .0 .most, l, length-take-le (6 * p .args .t) (p .args .t3) (omega (arith, p .pre .0 .most, l)))
 
@@ -45,7 +45,7 @@ add-next-stage c = search needs
 
 next-stage-requires : tie.Need-next-stage-requires
 next-stage-requires c κs =
-    let p = c .before .before .before .before in
+    let p = c .before .before .before .before .before in
     let l : length (p .args .t3) ≡ 24 = p .good .1 .1 .0 .1 .0 .1 in
     let m = length-take-le (6 * p .args .t) (p .args .t3) (omega (arith, p .pre .0 .most, l)) in
     (p .pre .0, ((omega arith, omega arith), ap length (c .before .stage-of-key .ensures) ∙ length-padded (take (6 * p .args .t) (p .args .t3)) (omega (arith, p .pre .0 .most, m))))
@@ -53,7 +53,7 @@ next-stage-requires c κs =
 returns : tie.Need-returns
 unfolding stageAfter
 returns c =
-    let p = c .before .before .before .before .before in
+    let p = c .before .before .before .before .before .before in
     let t = p .args .t in
     let s = p .args .s in
     let k = p .args .t3 in
@@ -70,7 +70,7 @@ add-closing-requires c κs = search needs
 
 linear-step-requires : tie.Need-linear-step-requires
 linear-step-requires c κs =
-    let p = c .before .before .before in
+    let p = c .before .before .before .before in
     let t = p .args .t in
     let x = plus (2 * t) (p .args .t3) (closingSum t) in
     (p .pre .0, ap length (c .before .add-closing .ensures) ∙ length-padded x (omega (arith, p .pre .0 .most, length-plus (2 * t) (p .args .t3) (closingSum t))))
@@ -78,7 +78,7 @@ linear-step-requires c κs =
 returns-2 : tie.Need-returns-2
 unfolding stageAfter
 returns-2 c =
-    let p = c .before .before .before .before in
+    let p = c .before .before .before .before .before in
     let t = p .args .t in
     let k = p .args .t3 in
     c .linear-step .ensures
@@ -90,7 +90,7 @@ stage-after-spec =
     tie.close
     (tie.spec
     add-if1
-    mul-if1
+    turn-for-requires
     mul-end
     array-share-prefix-k
     slice-aggregate-stage-of-key

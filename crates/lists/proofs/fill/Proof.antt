@@ -9,7 +9,8 @@ use Rattle.blocks.specs.Blocks.{bytesOf}
 use Rattle.schedule.specs.Columns.{padded}
 use Rattle.sizes.specs.Sizes.{sizeOf}
 use Rattle.schedule.specs.Stages.{stage}
-use Rattle.schedule.proofs.Keys.{a-key, held-length, advanced}
+use Rattle.sizes.proofs.Keys.{a-key}
+use Rattle.schedule.proofs.Keys.{held-length, advanced}
 use Rattle.lists.proofs.Keys.{selected}
 use Rattle.lists.proofs.Filled.{front, front-first, front-next, front-whole, part-written}
 use borrow.Author.Needs.{needs}

@@ -16,7 +16,8 @@ use Rattle.lists.specs.Lists.{subkeys}
 use Rattle.schedule.specs.Columns.{padded}
 use Rattle.sizes.specs.Sizes.{sizeOf}
 use Rattle.schedule.specs.Stages.{stage}
-use Rattle.schedule.proofs.Keys.{a-key, held-length, advanced}
+use Rattle.sizes.proofs.Keys.{a-key}
+use Rattle.schedule.proofs.Keys.{held-length, advanced}
 use Rattle.lists.proofs.Keys.{selected}
 use Rattle.lists.proofs.Filled.{part-written}
 use Rattle.lists.proofs.Turned.{back, first-drop, back-first, back-next, back-whole}

@@ -1,35 +1,56 @@
--- `cycle::closing::closing_sum` meets its contract: the three sums are computed.
-use mathlib.Core.Path.{_≡_, refl, sym, ap, _∙_}
-use mathlib.Core.List.{[], _∷_}
-use Prim.Native.Nat.{ℕ}
+-- `cycle::closing::closing_sum` meets its contract: one test, computed at each t, that the table's entry is the closing sum.
+use mathlib.Core.Path.{_≡_, ap, _∙_}
+use mathlib.Core.Bool.{Bool}
+use mathlib.Core.List.{List, [], _∷_}
+use Prim.Native.Nat.{ℕ, _+_, _-_}
 use native.Mathlib.Omega.{arith}
+use lib.Dec.{T, eqb, eqb→eq}
+use lib.ListN.{getD}
 use Rattle.field.specs.Field.{times, product, reduced}
+use Rattle.field.proofs.Computed.{all, passed}
 use Rattle.sbox.specs.Sbox.{sbox, tableP, tableQ}
+use Rattle.sizes.specs.Sizes.{Sized}
 use Rattle.schedule.specs.Columns.{columns, plus, padded, columnRule}
 use Rattle.schedule.specs.Stages.{moved, linearStep, constant, stage, zeros, closingSum}
+use Rattle.period.proofs.Alike.{alike, alike-sound}
+use borrow.Author.Needs.{needs}
 use Rattle.cycle.proofs.closing.closing_sum.Statement.{statement}
 use Rattle.cycle.proofs.closing.closing_sum.Tie as tie
 
-sum-96 : 18 ∷ 155 ∷ 46 ∷ 59 ∷ 91 ∷ 100 ∷ 158 ∷ 174 ∷ 27 ∷ 10 ∷ 49 ∷ 14 ∷ 0 ∷ 0 ∷ 0 ∷ 0 ∷ 0 ∷ 0 ∷ 0 ∷ 0 ∷ 0 ∷ 0 ∷ 0 ∷ 0 ∷ [] ≡ padded (closingSum 2)
-unfolding closingSum stage zeros linearStep moved columnRule plus constant padded columns sbox tableP tableQ times product reduced
-sum-96 = refl
+-- the code's table
+sums : List (List ℕ)
+sums =
+    (18 ∷ 155 ∷ 46 ∷ 59 ∷ 91 ∷ 100 ∷ 158 ∷ 174 ∷ 27 ∷ 10 ∷ 49 ∷ 14 ∷ 0 ∷ 0 ∷ 0 ∷ 0 ∷ 0 ∷ 0 ∷ 0 ∷ 0 ∷ 0 ∷ 0 ∷ 0 ∷ 0 ∷ [])
+    ∷ (19 ∷ 119 ∷ 227 ∷ 170 ∷ 191 ∷ 90 ∷ 214 ∷ 17 ∷ 56 ∷ 192 ∷ 137 ∷ 73 ∷ 253 ∷ 174 ∷ 19 ∷ 18 ∷ 78 ∷ 107 ∷ 0 ∷ 0 ∷ 0 ∷ 0 ∷ 0 ∷ 0 ∷ [])
+    ∷ (222 ∷ 131 ∷ 12 ∷ 55 ∷ 40 ∷ 136 ∷ 26 ∷ 214 ∷ 34 ∷ 63 ∷ 70 ∷ 78 ∷ 24 ∷ 237 ∷ 22 ∷ 124 ∷ 173 ∷ 137 ∷ 156 ∷ 135 ∷ 7 ∷ 152 ∷ 4 ∷ 136 ∷ [])
+    ∷ []
 
-sum-144 : 19 ∷ 119 ∷ 227 ∷ 170 ∷ 191 ∷ 90 ∷ 214 ∷ 17 ∷ 56 ∷ 192 ∷ 137 ∷ 73 ∷ 253 ∷ 174 ∷ 19 ∷ 18 ∷ 78 ∷ 107 ∷ 0 ∷ 0 ∷ 0 ∷ 0 ∷ 0 ∷ 0 ∷ [] ≡ padded (closingSum 3)
-unfolding closingSum stage zeros linearStep moved columnRule plus constant padded columns sbox tableP tableQ times product reduced
-sum-144 = refl
+right : ℕ → Bool
+right u = alike eqb (getD sums u []) (padded (closingSum (2 + u)))
 
-sum-192 : 222 ∷ 131 ∷ 12 ∷ 55 ∷ 40 ∷ 136 ∷ 26 ∷ 214 ∷ 34 ∷ 63 ∷ 70 ∷ 78 ∷ 24 ∷ 237 ∷ 22 ∷ 124 ∷ 173 ∷ 137 ∷ 156 ∷ 135 ∷ 7 ∷ 152 ∷ 4 ∷ 136 ∷ [] ≡ padded (closingSum 4)
-unfolding closingSum stage zeros linearStep moved columnRule plus constant padded columns sbox tableP tableQ times product reduced
-sum-192 = refl
+computed : T (all 3 right)
+unfolding right sums alike closingSum stage zeros linearStep moved columnRule plus constant padded columns sbox tableP tableQ times product reduced
+computed = tt
+
+in-table : (t : ℕ) → Sized t → getD sums (t - 2) [] ≡ padded (closingSum t)
+unfolding right
+in-table t z =
+    let e : 2 + (t - 2) ≡ t = omega (arith, z .least) in
+    alike-sound eqb eqb→eq (getD sums (t - 2) []) (padded (closingSum (2 + (t - 2)))) (passed 3 right computed (t - 2) (omega (arith, z .least, z .most)))
+    ∙ ap (λ (x : ℕ). padded (closingSum x)) e
+
+sub-result : tie.Need-sub-result
+sub-result c = search needs
+
+mul-result : tie.Need-mul-result
+mul-result c = search needs
+
+array-copy-out-result : tie.Need-array-copy-out-result
+array-copy-out-result c = search needs
 
 returns : tie.Need-returns
-returns c = let e : c .before .args .t ≡ 2 = omega arith in sum-96 ∙ ap (λ (t : ℕ). padded (closingSum t)) (sym e)
-
-returns-2 : tie.Need-returns-2
-returns-2 c = let e : c .before .before .args .t ≡ 3 = omega arith in sum-144 ∙ ap (λ (t : ℕ). padded (closingSum t)) (sym e)
-
-returns-3 : tie.Need-returns-3
-returns-3 c = let e : c .before .before .args .t ≡ 4 = omega arith in sum-192 ∙ ap (λ (t : ℕ). padded (closingSum t)) (sym e)
+unfolding sums
+returns c = in-table (c .before .args .t) (c .before .pre)
 
 pub closing-sum-spec : {M : Type 1} → statement M
-closing-sum-spec = tie.close (tie.spec returns returns-2 returns-3)
+closing-sum-spec = tie.close (tie.spec sub-result mul-result array-copy-out-result returns)

@@ -7,7 +7,7 @@ use lib.ListN.{length}
 use borrow.Author.Tests.{not-true, not-false}
 use Rattle.refusal.proofs.Tries.{first-passes, first-holds, none-given}
 use Rattle.refusal.proofs.Answers.{answer-refused, answer-done}
-use Rattle.schedule.proofs.Keys.{a-key}
+use Rattle.sizes.proofs.Keys.{a-key}
 use Rattle.holder.specs.Holder.{holderAt, blank}
 use Rattle.holder.specs.Calls.{makeTries, madeHolder}
 use borrow.Author.Needs.{needs}

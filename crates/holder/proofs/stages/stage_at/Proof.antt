@@ -7,7 +7,8 @@ use lib.ListN.{length}
 use Rattle.schedule.specs.Columns.{padded}
 use Rattle.sizes.specs.Sizes.{sizeOf}
 use Rattle.schedule.specs.Stages.{stage}
-use Rattle.schedule.proofs.Keys.{a-key, held-length, advanced}
+use Rattle.sizes.proofs.Keys.{a-key}
+use Rattle.schedule.proofs.Keys.{held-length, advanced}
 use borrow.Author.Needs.{needs}
 use Rattle.holder.proofs.stages.stage_at.Statement.{statement}
 use Rattle.holder.proofs.stages.stage_at.Tie as tie

@@ -1,5 +1,6 @@
 -- `holder::steps::is_whole` meets its contract.
 use mathlib.Core.Path.{sym, _∙_}
+use native.Mathlib.Omega.{arith}
 use borrow.Author.Tests.{not-true, not-false}
 use Rattle.holder.proofs.Whole.{not-key, not-below, below-zeros}
 use borrow.Author.Needs.{needs}
@@ -12,9 +13,14 @@ is-key-length-requires c κs = search needs
 returns : tie.Need-returns
 returns c = sym (not-key (c .before .before .before .args .h) (sym (c .before .is-key-length .ensures) ∙ not-true _ (c .if1 .taken)))
 
+turn-of-key-requires : tie.Need-turn-of-key-requires
+turn-of-key-requires c κs = sym (c .before .is-key-length .ensures) ∙ not-false _ (c .if1 .left)
+
 returns-2 : tie.Need-returns-2
 returns-2 c =
-    sym (not-below (c .before .before .before .before .args .h) (sym (c .before .before .is-key-length .ensures) ∙ not-false _ (c .before .if1 .left)) (c .if2 .taken))
+    let s = c .before .before .before in
+    let k = sym (s .is-key-length .ensures) ∙ not-false _ (c .before .before .if1 .left) in
+    sym (not-below (s .before .before .args .h) k (omega (arith, c .before .turn-of-key .ensures, c .if2 .taken)))
 
 slice-aggregate-zeros-from : tie.Need-slice-aggregate-zeros-from
 slice-aggregate-zeros-from c = search needs
@@ -24,8 +30,10 @@ zeros-from-requires c κs = search needs
 
 returns-3 : tie.Need-returns-3
 returns-3 c =
-    c .zeros-from .ensures
-    ∙ sym (below-zeros (c .before .before .before .before .before .before .args .h) (sym (c .before .before .before .before .is-key-length .ensures) ∙ not-false _ (c .before .before .before .if1 .left)) (c .before .before .if2 .left))
+    let t = c .before .before .before in
+    let s = t .before .before in
+    let k = sym (s .is-key-length .ensures) ∙ not-false _ (t .before .if1 .left) in
+    c .zeros-from .ensures ∙ sym (below-zeros (s .before .before .args .h) k (omega (arith, t .turn-of-key .ensures, c .before .before .if2 .left)))
 
 pub is-whole-spec : {M : Type 1} → statement M
 is-whole-spec =
@@ -33,6 +41,7 @@ is-whole-spec =
     (tie.spec
     is-key-length-requires
     returns
+    turn-of-key-requires
     returns-2
     slice-aggregate-zeros-from
     zeros-from-requires

@@ -1,0 +1,40 @@
+// A grant checked, and a grant issued and then checked, on a roll by value.
+
+ghost use mathlib.Core.Path.{_≡_};
+ghost use Rattle.refusal.specs.Tries.{answered};
+ghost use Rattle.grant.specs.Grants.{verdictNumber, verdictContractor, verdictRight};
+ghost use Rattle.grant.specs.Calls.{issueNumber, issueOutput};
+ghost use Rattle.verdicts.specs.Decisions.{Decides};
+use grant::Verdict;
+use refusal::Outcome;
+use roll::Roll;
+
+// The verdict on a grant.
+pub fn check(key: &[u8], rounds: u32, roll: Roll, grant: &[u8], block: u32, right: u32) -> Verdict
+    ensures { λ r. ⌜ Decides (now (key .entry)) rounds roll (now (grant .entry)) block right r ⌝ }
+{
+    grant::check(key, rounds, roll, grant, block, right)
+}
+
+// Issues a grant, and checks the twelve bytes that were written, on the same roll, for the same size block and right: wherever the issue does
+// not refuse, they open.
+pub fn issue_then_check(
+    key: &[u8],
+    rounds: u32,
+    roll: Roll,
+    contractor: u32,
+    block: u32,
+    right: u32,
+    out: &mut [u8],
+) -> Verdict
+    ensures { λ r. ⌜ verdictNumber r ≡ issueNumber (now (key .entry)) rounds roll contractor right (now (out .entry)) ⌝ }
+    ensures { λ r. ⌜ verdictContractor r ≡ answered (issueNumber (now (key .entry)) rounds roll contractor right (now (out .entry))) contractor 0 ⌝ }
+    ensures { λ r. ⌜ verdictRight r ≡ answered (issueNumber (now (key .entry)) rounds roll contractor right (now (out .entry))) right 0 ⌝ }
+    ensures { λ _. ⌜ now (out .exit) ≡ issueOutput (now (key .entry)) rounds roll contractor block right (now (out .entry)) ⌝ }
+{
+    let outcome = grant::issue(key, rounds, roll, contractor, block, right, out);
+    match outcome {
+        Outcome::Done => grant::check(key, rounds, roll, &out[..12], block, right),
+        Outcome::Refused(reason) => Verdict::Refused(reason),
+    }
+}

@@ -1,0 +1,379 @@
+//! Worked answers to fixed questions, as plain text. Nothing is drawn from a
+//! generator: all inputs stand in this file and in README.md.
+//!
+//! The keys are the first 12, the first 18 and all 24 bytes of KEY. The lines come
+//! in this order:
+//!
+//! - `limits L LEAST MOST`: the least and the greatest number of rounds for keys of
+//!   L bytes.
+//! - `roll BYTES COUNT ...`: the counts of contractors 1, 2, ... in a roll in bytes.
+//! - `rollbytes COUNT ... BYTES`: the roll in bytes that has these counts.
+//! - `block BYTES ROW0 ROW1 ROW2`: the rows of the state that a block stands for.
+//! - `stage KEY s STAGE SUBKEY`: stage s of a key and its subkey, for s = 1, 2 and
+//!   6t - 1.
+//! - `closing L SUM`: what the 6t - 1 steps of the schedule make of the zero key of
+//!   L bytes.
+//! - `list KEY R LIST`, `turned KEY R TURNED`: the subkeys 0 to R, and the
+//!   decryption keys of Theorem 1.
+//! - `plain CONTRACTOR COUNT BLOCK RIGHT BYTES`: the plain bytes of a grant.
+//! - `walk L FROM TO STEPS WAY`: what a walk of a holder of a key of L bytes reports.
+//! - `standing COUNT yes|no`: whether a contractor with this count is in standing.
+//! - `order CALL A B GIVEN`: the number with which a call is refused for which the
+//!   reasons A and B hold, and no reason that comes before A.
+//!
+//! A and B are neighbours in the order of the reasons for a call. Some neighbours
+//! have no line:
+//!
+//! - Enter has none at all, because no two of its reasons 6, 21, 22 hold together. A
+//!   contractor outside 1 to 200 has no count; so 21 does not hold, which needs one
+//!   that is odd, nor 22, which needs 65,534 or 65,535. And with these two counts a
+//!   contractor is not in standing, so 21 and 22 do not hold together.
+//! - Issue has the order 1, 2, 4, 6, 7, 20, but no input for reason 4, an output that
+//!   is too short, because it returns the grant. So 6 comes next to 2.
+//!
+//! The reasons 6 and 20 of withdraw do hold together: a contractor without a count
+//! is not in standing.
+
+use crate::cipher::{allowed_rounds, decryption_keys, encrypt, state_of};
+use crate::error::Error;
+use crate::grants::number_of;
+use crate::matrix::Matrix;
+use crate::roll::{
+    counts_from_bytes, counts_to_bytes, in_standing, Grant, Roll, CONTRACTORS, OVERWRITING, READING,
+};
+use crate::routes::walk;
+use crate::schedule::{cipher_key, key_stage, round_subkeys, select};
+use crate::vectors::{add_line, hex, list_hex, matrix_hex, KEY_LENGTHS};
+
+/// The key of 24 bytes. The others are its first 12 and its first 18.
+const KEY: [u8; 24] = [
+    0x0F, 0x1E, 0x2D, 0x3C, 0x4B, 0x5A, 0x69, 0x78, 0x87, 0x96, 0xA5, 0xB4, 0xC3, 0xD2, 0xE1, 0xF0,
+    0x01, 0x12, 0x23, 0x34, 0x45, 0x56, 0x67, 0x70,
+];
+
+/// The length of the key for the list of subkeys and for the calls that are
+/// refused.
+const SHORT: usize = 12;
+
+/// The number of rounds with this key.
+const ROUNDS: usize = 10;
+
+/// The roll in bytes that is read.
+const ROLL_READ: [u8; 8] = [0x01, 0x02, 0x03, 0x04, 0xFF, 0xFE, 0x00, 0x01];
+
+/// The counts that are written as a roll in bytes.
+const ROLL_WRITTEN: [u16; 4] = [1, 256, 4_660, 65_534];
+
+/// The block whose rows are printed.
+const BLOCK: [u8; 12] = [0, 1, 2, 3, 4, 5, 6, 7, 8, 9, 10, 11];
+
+/// The grants whose plain bytes are printed.
+const GRANTS: [Grant; 2] = [
+    Grant {
+        contractor: 200,
+        count: 4_661,
+        block: 16_909_060,
+        right: READING,
+    },
+    Grant {
+        contractor: 7,
+        count: 1,
+        block: 300,
+        right: OVERWRITING,
+    },
+];
+
+/// The walks: the key length, and the places from which and to which they go.
+const WALKS: [(usize, usize, usize); 11] = [
+    (12, 0, 0),
+    (12, 0, 6),
+    (12, 0, 7),
+    (12, 11, 0),
+    (12, 0, 11),
+    (18, 0, 9),
+    (18, 0, 10),
+    (24, 0, 12),
+    (24, 0, 13),
+    (24, 23, 1),
+    (24, 1, 23),
+];
+
+/// The counts with which a contractor is or is not in standing.
+const COUNTS: [u16; 7] = [0, 1, 2, 65_532, 65_533, 65_534, 65_535];
+
+/// The pairs of reasons for a withdrawal.
+const WITHDRAW_PAIRS: [[u8; 2]; 1] = [[6, 20]];
+
+/// The pairs of reasons for an issue.
+const ISSUE_PAIRS: [[u8; 2]; 4] = [[1, 2], [2, 6], [6, 7], [7, 20]];
+
+/// The pairs of reasons for a check.
+const CHECK_PAIRS: [[u8; 2]; 8] = [
+    [1, 2],
+    [2, 3],
+    [3, 7],
+    [7, 8],
+    [8, 9],
+    [9, 10],
+    [10, 20],
+    [20, 23],
+];
+
+/// The contractor of a call in which nothing is wrong.
+const CONTRACTOR: u16 = 7;
+
+/// The number of the size block of a call in which nothing is wrong.
+const SIZE_BLOCK: u32 = 300;
+
+/// Everyone's count in the roll of a call in which nothing is wrong.
+const COUNT: u16 = 3;
+
+/// All worked answers.
+pub fn answers_text() -> Result<String, Error> {
+    let mut text = String::new();
+    add_limits_lines(&mut text)?;
+    add_roll_lines(&mut text);
+    add_block_line(&mut text)?;
+    add_stage_lines::<4>(&mut text)?;
+    add_stage_lines::<6>(&mut text)?;
+    add_stage_lines::<8>(&mut text)?;
+    add_closing_line::<4>(&mut text);
+    add_closing_line::<6>(&mut text);
+    add_closing_line::<8>(&mut text);
+    add_list_lines(&mut text)?;
+    add_plain_lines(&mut text);
+    add_walk_lines(&mut text);
+    add_standing_lines(&mut text);
+    add_order_lines(&mut text, "withdraw", &WITHDRAW_PAIRS, withdraw_with);
+    add_order_lines(&mut text, "issue", &ISSUE_PAIRS, issue_with);
+    add_order_lines(&mut text, "check", &CHECK_PAIRS, check_with);
+    Ok(text)
+}
+
+/// The lines for the numbers of rounds in Table 2 (section 3.9).
+fn add_limits_lines(text: &mut String) -> Result<(), Error> {
+    for key_length in KEY_LENGTHS {
+        let rounds = allowed_rounds(key_length)?;
+        let least = rounds.start().to_string();
+        let most = rounds.end().to_string();
+        add_line(text, &["limits", &key_length.to_string(), &least, &most]);
+    }
+    Ok(())
+}
+
+/// The line for a roll that is read, and the line for one that is written.
+fn add_roll_lines(text: &mut String) {
+    let read = counts_from_bytes(&ROLL_READ).expect("the number of bytes is even");
+    add_line(text, &["roll", &hex(&ROLL_READ), &decimals(&read)]);
+    let written = hex(&counts_to_bytes(&ROLL_WRITTEN));
+    add_line(text, &["rollbytes", &decimals(&ROLL_WRITTEN), &written]);
+}
+
+/// Counts as decimal numbers, with one space between each two.
+fn decimals(counts: &[u16]) -> String {
+    let numbers: Vec<String> = counts.iter().map(u16::to_string).collect();
+    numbers.join(" ")
+}
+
+/// The line for the rows of a block.
+fn add_block_line(text: &mut String) -> Result<(), Error> {
+    let [first, second, third] = state_of(&BLOCK)?.rows.map(|row| hex(&row));
+    add_line(text, &["block", &hex(&BLOCK), &first, &second, &third]);
+    Ok(())
+}
+
+/// The lines for stages 1, 2 and 6t - 1 = 3N - 1 of the key of N columns (sections
+/// 3.7 and 3.8).
+fn add_stage_lines<const N: usize>(text: &mut String) -> Result<(), Error> {
+    let user_key = &KEY[..3 * N];
+    let key: Matrix<N> = cipher_key(user_key)?;
+    for s in [1, 2, 3 * N - 1] {
+        let stage = key_stage(&key, s);
+        let subkey = matrix_hex(&select(&stage));
+        let stage = matrix_hex(&stage);
+        add_line(
+            text,
+            &["stage", &hex(user_key), &s.to_string(), &stage, &subkey],
+        );
+    }
+    Ok(())
+}
+
+/// The line for the closing sum for keys of N columns: stage 6t - 1 = 3N - 1 of the
+/// zero key. The last stage of any key plus this sum is taken back to the key by
+/// omega (section 3.7; README.md says what is wrong in print there).
+fn add_closing_line<const N: usize>(text: &mut String) {
+    let sum = key_stage(&Matrix::<N>::zero(), 3 * N - 1);
+    add_line(text, &["closing", &(3 * N).to_string(), &matrix_hex(&sum)]);
+}
+
+/// The lines for the subkeys of the short key (section 3.8) and for the decryption
+/// keys that come from them (section 3.10).
+fn add_list_lines(text: &mut String) -> Result<(), Error> {
+    let key = &KEY[..SHORT];
+    let list = round_subkeys(key, ROUNDS)?;
+    let turned = decryption_keys(&list)?;
+    let rounds = ROUNDS.to_string();
+    add_line(text, &["list", &hex(key), &rounds, &list_hex(&list)]);
+    add_line(text, &["turned", &hex(key), &rounds, &list_hex(&turned)]);
+    Ok(())
+}
+
+/// The lines for the plain bytes of grants.
+fn add_plain_lines(text: &mut String) {
+    for grant in GRANTS {
+        add_line(
+            text,
+            &[
+                "plain",
+                &grant.contractor.to_string(),
+                &grant.count.to_string(),
+                &grant.block.to_string(),
+                &grant.right.to_string(),
+                &hex(&grant.plain_bytes()),
+            ],
+        );
+    }
+}
+
+/// The lines for walks, none of which is refused.
+fn add_walk_lines(text: &mut String) {
+    for (turn, from, to) in WALKS {
+        let walked = walk(turn, from, to);
+        add_line(
+            text,
+            &[
+                "walk",
+                &turn.to_string(),
+                &from.to_string(),
+                &to.to_string(),
+                &walked.steps.to_string(),
+                walked.way.word(),
+            ],
+        );
+    }
+}
+
+/// The lines for counts with which a contractor is or is not in standing.
+fn add_standing_lines(text: &mut String) {
+    for count in COUNTS {
+        let word = if in_standing(count) { "yes" } else { "no" };
+        add_line(text, &["standing", &count.to_string(), word]);
+    }
+}
+
+/// The lines for the pairs of reasons for one call. `call_with` makes the call with
+/// an input for which the given reasons hold.
+fn add_order_lines(
+    text: &mut String,
+    call: &str,
+    pairs: &[[u8; 2]],
+    call_with: fn(&[u8]) -> String,
+) {
+    for pair in pairs {
+        let [a, b] = pair.map(|reason| reason.to_string());
+        add_line(text, &["order", call, &a, &b, &call_with(pair)]);
+    }
+}
+
+/// The number of a withdrawal for which the given reasons hold, of 6 and 20.
+pub fn withdraw_with(reasons: &[u8]) -> String {
+    let mut roll = roll_with(reasons);
+    number_of(&roll.withdraw(contractor_with(reasons)))
+}
+
+/// The number of an issue for which the given reasons hold, of 1, 2, 6, 7 and 20.
+pub fn issue_with(reasons: &[u8]) -> String {
+    let (key, rounds) = key_and_rounds_with(reasons);
+    let contractor = contractor_with(reasons);
+    let right = right_with(reasons);
+    number_of(&roll_with(reasons).issue(key, rounds, contractor, SIZE_BLOCK, right))
+}
+
+/// The number of a check for which the given reasons hold, of 1, 2, 3, 7, 8, 9, 10,
+/// 20 and 23. For reason 9 it is asked for the next size block.
+pub fn check_with(reasons: &[u8]) -> String {
+    let (key, rounds) = key_and_rounds_with(reasons);
+    let grant = grant_with(reasons);
+    let block = if reasons.contains(&9) {
+        SIZE_BLOCK + 1
+    } else {
+        SIZE_BLOCK
+    };
+    let right = right_with(reasons);
+    number_of(&roll_with(reasons).check(key, rounds, &grant, block, right))
+}
+
+/// The key and the number of rounds of a call. For reason 1 the key has 11 bytes.
+/// For reason 2 the rounds are 12, which Table 2 (section 3.9) has for no key.
+fn key_and_rounds_with(reasons: &[u8]) -> (&'static [u8], usize) {
+    let length = if reasons.contains(&1) {
+        SHORT - 1
+    } else {
+        SHORT
+    };
+    let rounds = if reasons.contains(&2) { 12 } else { ROUNDS };
+    (&KEY[..length], rounds)
+}
+
+/// The contractor of a call: for reason 6 the number after the last.
+fn contractor_with(reasons: &[u8]) -> u16 {
+    if reasons.contains(&6) {
+        201
+    } else {
+        CONTRACTOR
+    }
+}
+
+/// The right that is asked for: for reason 7 none, and for reason 10 not the one in
+/// the grant.
+fn right_with(reasons: &[u8]) -> u8 {
+    if reasons.contains(&7) {
+        3
+    } else if reasons.contains(&10) {
+        READING
+    } else {
+        OVERWRITING
+    }
+}
+
+/// The roll of a call, in which everyone has the same count. For reason 20 nobody
+/// is in standing.
+fn roll_with(reasons: &[u8]) -> Roll {
+    Roll::with_counts([count_with(reasons); CONTRACTORS])
+}
+
+/// Everyone's count in the roll of a call.
+fn count_with(reasons: &[u8]) -> u16 {
+    if reasons.contains(&20) {
+        COUNT - 1
+    } else {
+        COUNT
+    }
+}
+
+/// The enciphered grant of a check. For reason 3 its last byte is missing, for
+/// reason 8 the last byte of the mark is wrong, and for reason 23 the count is that
+/// of an earlier time.
+fn grant_with(reasons: &[u8]) -> Vec<u8> {
+    let grant = Grant {
+        contractor: CONTRACTOR,
+        count: if reasons.contains(&23) {
+            COUNT - 2
+        } else {
+            count_with(reasons)
+        },
+        block: SIZE_BLOCK,
+        right: OVERWRITING,
+    };
+    let mut plain = grant.plain_bytes();
+    if reasons.contains(&8) {
+        plain[11] += 1;
+    }
+    let enciphered = encrypt(&KEY[..SHORT], ROUNDS, &plain);
+    let mut bytes = enciphered.expect("the key, the rounds and the block are allowed");
+    if reasons.contains(&3) {
+        bytes.pop();
+    }
+    bytes
+}

@@ -1,0 +1,461 @@
+//! What README.md says about the worked answers. Where an answer can be worked out
+//! by hand, it is written out here. Stages are taken from the closed form of section
+//! 3.7, subkeys from the published S-box, and the turned list has to decipher.
+
+use curupira_reference::answers::{answers_text, check_with, issue_with, withdraw_with};
+use curupira_reference::cipher::{encrypt, encrypt_with};
+use curupira_reference::generator::Generator;
+use curupira_reference::layers::inverse_theta;
+use curupira_reference::matrix::{Matrix, State};
+use curupira_reference::roll::{counts_from_bytes, counts_to_bytes, Grant, Refusal, Roll};
+use curupira_reference::schedule::{accumulated_constant, cipher_key, omega, omega_power};
+use curupira_reference::vectors::hex;
+
+/// The keys of 12, 18 and 24 bytes.
+const KEYS: [&str; 3] = [
+    "0f1e2d3c4b5a69788796a5b4",
+    "0f1e2d3c4b5a69788796a5b4c3d2e1f00112",
+    "0f1e2d3c4b5a69788796a5b4c3d2e1f00112233445566770",
+];
+
+/// The lines of a name, as they are printed.
+fn lines_of(name: &str) -> Vec<String> {
+    let text = answers_text().expect("all keys have allowed lengths");
+    let start = format!("{} ", name);
+    text.lines()
+        .filter(|line| line.starts_with(&start))
+        .map(String::from)
+        .collect()
+}
+
+/// The lines of a name, each split into its fields, the name being the first.
+fn fields_of(name: &str) -> Vec<Vec<String>> {
+    lines_of(name)
+        .iter()
+        .map(|line| line.split(' ').map(String::from).collect())
+        .collect()
+}
+
+/// A field that is a decimal number, without signs and leading zeros.
+fn number(field: &str) -> usize {
+    let value: usize = field.parse().expect("a decimal number");
+    assert_eq!(value.to_string(), field);
+    value
+}
+
+/// The bytes that lowercase hexadecimal digits stand for.
+fn bytes(digits: &str) -> Vec<u8> {
+    let value: Vec<u8> = (0..digits.len() / 2)
+        .map(|k| u8::from_str_radix(&digits[2 * k..2 * k + 2], 16).expect("hex digits"))
+        .collect();
+    assert_eq!(hex(&value), digits);
+    value
+}
+
+/// The matrix that hexadecimal digits stand for, by columns.
+fn matrix<const N: usize>(digits: &str) -> Matrix<N> {
+    Matrix::from_bytes(&bytes(digits)).expect("3N bytes")
+}
+
+/// The states that hexadecimal digits stand for, one after the other.
+fn states(digits: &str) -> Vec<State> {
+    let all = bytes(digits);
+    assert_eq!(all.len() % 12, 0);
+    all.chunks(12)
+        .map(|part| Matrix::from_bytes(part).expect("12 bytes"))
+        .collect()
+}
+
+#[test]
+fn the_lines_stand_in_the_documented_order() {
+    let text = answers_text().expect("all keys have allowed lengths");
+    assert!(text.ends_with('\n'));
+    let names = text.lines().map(|line| line.split(' ').next());
+    let groups = [
+        ("limits", 3),
+        ("roll", 1),
+        ("rollbytes", 1),
+        ("block", 1),
+        ("stage", 9),
+        ("closing", 3),
+        ("list", 1),
+        ("turned", 1),
+        ("plain", 2),
+        ("walk", 11),
+        ("standing", 7),
+        ("order", 13),
+    ];
+    let documented = groups
+        .iter()
+        .flat_map(|(name, count)| vec![Some(*name); *count]);
+    assert!(names.eq(documented));
+    assert_eq!(text.lines().count(), 53);
+}
+
+/// The lines that README.md prints.
+#[test]
+fn the_answers_start_as_documented() {
+    let text = answers_text().expect("all keys have allowed lengths");
+    let first: Vec<&str> = text.lines().take(7).collect();
+    let documented = [
+        "limits 12 10 11",
+        "limits 18 14 17",
+        "limits 24 18 23",
+        "roll 01020304fffe0001 258 772 65534 1",
+        "rollbytes 1 256 4660 65534 000101001234fffe",
+        "block 000102030405060708090a0b 00030609 0104070a 0205080b",
+        "stage 0f1e2d3c4b5a69788796a5b4 1 c33dc23e2e7b71926d52ae37 343dc26c2e7b65926d0dae37",
+    ];
+    assert_eq!(first, documented);
+    let readme = include_str!("../README.md");
+    assert!(readme.contains(&format!("    {}\n", documented.join("\n    "))));
+}
+
+/// Table 2, and the formulas that fit it: 4t + 2 and 6t - 1.
+#[test]
+fn the_limits_are_those_of_table_2() {
+    let written = ["limits 12 10 11", "limits 18 14 17", "limits 24 18 23"];
+    assert_eq!(lines_of("limits"), written);
+    for (line, t) in fields_of("limits").iter().zip(2..) {
+        let numbers: Vec<usize> = line[1..].iter().map(|field| number(field)).collect();
+        assert_eq!(numbers, [6 * t, 4 * t + 2, 6 * t - 1]);
+    }
+}
+
+/// 258 is 256 + 2, 772 is 3 * 256 + 4, and 4660 is hex 1234.
+#[test]
+fn the_rolls_are_as_written_by_hand() {
+    assert_eq!(lines_of("roll"), ["roll 01020304fffe0001 258 772 65534 1"]);
+    assert_eq!(
+        lines_of("rollbytes"),
+        ["rollbytes 1 256 4660 65534 000101001234fffe"]
+    );
+}
+
+#[test]
+fn a_roll_that_was_written_is_read_again() {
+    let mut generator = Generator::new(40);
+    let mut counts: Vec<u16> = vec![0, 1, 255, 256, 65_280, 65_534, 65_535];
+    while counts.len() < 200 {
+        let [high, low] = [(); 2].map(|_| u16::from(generator.byte()));
+        counts.push(high << 8 | low);
+    }
+    let written = counts_to_bytes(&counts);
+    let digits: String = counts
+        .iter()
+        .map(|count| format!("{:04x}", count))
+        .collect();
+    assert_eq!((written.len(), hex(&written)), (400, digits));
+    assert_eq!(counts_from_bytes(&written), Some(counts));
+}
+
+#[test]
+fn half_a_count_is_not_read() {
+    assert_eq!(counts_from_bytes(&[]), Some(vec![]));
+    assert_eq!(counts_from_bytes(&[1]), None);
+    assert_eq!(counts_from_bytes(&[0; 399]), None);
+    assert_eq!(counts_from_bytes(&[0; 401]), None);
+    assert_eq!(counts_to_bytes(&[]), []);
+}
+
+#[test]
+fn the_counts_read_are_those_of_contractors_1_and_on() {
+    let mut in_bytes = vec![0; 400];
+    in_bytes[0] = 0x12;
+    in_bytes[1] = 0x34;
+    in_bytes[398] = 0x56;
+    in_bytes[399] = 0x78;
+    let counts = counts_from_bytes(&in_bytes).expect("the number of bytes is even");
+    let roll = Roll::with_counts(counts.try_into().expect("there are 200 counts"));
+    assert_eq!(roll.count(1), Ok(0x1234));
+    assert_eq!(roll.count(2), Ok(0));
+    assert_eq!(roll.count(199), Ok(0));
+    assert_eq!(roll.count(200), Ok(0x5678));
+}
+
+#[test]
+fn the_rows_of_the_block_are_as_written_by_hand() {
+    let written = ["block 000102030405060708090a0b 00030609 0104070a 0205080b"];
+    assert_eq!(lines_of("block"), written);
+}
+
+/// The stage of a key by the closed form of section 3.7: omega^s(K) + Q^(s).
+fn closed_form<const N: usize>(key: &str, s: usize) -> Matrix<N> {
+    let key: Matrix<N> = cipher_key(&bytes(key)).expect("a key of N columns");
+    omega_power(s, &key).plus(&accumulated_constant(s))
+}
+
+/// The subkey of a stage, as hexadecimal digits: the first 12 bytes, of which bytes
+/// 0, 3, 6 and 9 are replaced by those of the published S-box (section 3.8).
+fn subkey_digits(stage: &str) -> String {
+    let table: Vec<&str> = include_str!("../published/sbox.txt")
+        .split_whitespace()
+        .collect();
+    assert_eq!(table.len(), 256);
+    let first = &bytes(stage)[..12];
+    let digits = first.iter().enumerate().map(|(k, byte)| {
+        if k % 3 == 0 {
+            table[usize::from(*byte)].to_lowercase()
+        } else {
+            hex(&[*byte])
+        }
+    });
+    digits.collect()
+}
+
+/// The lines for the stages of the key of N columns.
+fn check_stages<const N: usize>(key: &str, lines: &[Vec<String>]) {
+    for (line, s) in lines.iter().zip([1, 2, 3 * N - 1]) {
+        let stage = hex(&closed_form::<N>(key, s).to_bytes());
+        assert_eq!(stage.len(), key.len());
+        let subkey = subkey_digits(&stage);
+        assert_eq!(line[..], ["stage", key, &s.to_string(), &stage, &subkey]);
+    }
+}
+
+#[test]
+fn the_stages_are_those_of_the_closed_form() {
+    let lines = fields_of("stage");
+    check_stages::<4>(KEYS[0], &lines[..3]);
+    check_stages::<6>(KEYS[1], &lines[3..6]);
+    check_stages::<8>(KEYS[2], &lines[6..]);
+}
+
+/// Stage 1 of the short key by the words of sections 3.6 and 3.7. Row 0 of the key is
+/// 0F 3C 69 96, and with S[0] to S[3], which are BA 54 2F 74, it becomes B5 68 46 E2.
+/// Row 1 is 1E 4B 78 A5, rotated to the left 4B 78 A5 1E. Row 2 is 2D 5A 87 B4,
+/// rotated to the right B4 2D 5A 87. The sums of the columns are 4A 3D B9 7B, and c
+/// times these is 76 56 37 B0. All bytes of a column get that added.
+#[test]
+fn a_first_stage_is_as_derived_by_hand() {
+    let rows = [
+        [0xB5, 0x68, 0x46, 0xE2],
+        [0x4B, 0x78, 0xA5, 0x1E],
+        [0xB4, 0x2D, 0x5A, 0x87],
+    ];
+    let added = [0x76, 0x56, 0x37, 0xB0];
+    let derived: State = Matrix::from_rule(|i, j| rows[i][j] ^ added[j]);
+    assert_eq!(fields_of("stage")[0][3], hex(&derived.to_bytes()));
+}
+
+/// The closing sum for keys of N columns. It is the constant Q^(6t-1), and omega takes
+/// the last stage plus the sum to the key.
+fn check_closing<const N: usize>(key: &str, sum: &str, last_stage: &str) {
+    let sum: Matrix<N> = matrix(sum);
+    assert_eq!(sum, accumulated_constant(3 * N - 1));
+    let next = omega(&matrix(last_stage).plus(&sum));
+    assert_eq!(next, matrix(key));
+}
+
+#[test]
+fn the_closing_sums_take_the_last_stages_to_the_keys() {
+    let sums = fields_of("closing");
+    let stages = fields_of("stage");
+    check_closing::<4>(KEYS[0], &sums[0][2], &stages[2][3]);
+    check_closing::<6>(KEYS[1], &sums[1][2], &stages[5][3]);
+    check_closing::<8>(KEYS[2], &sums[2][2], &stages[8][3]);
+}
+
+/// They are the constants Q^(6t-1) that README.md prints elsewhere.
+#[test]
+fn the_closing_sums_are_the_constants_of_the_readme() {
+    let sums = [
+        (12, "129b2e3b5b649eae1b0a310e"),
+        (18, "1377e3aabf5ad61138c08949fdae13124e6b"),
+        (24, "de830c3728881ad6223f464e18ed167cad899c8707980488"),
+    ];
+    let readme = include_str!("../README.md");
+    for (line, (length, sum)) in lines_of("closing").iter().zip(sums) {
+        assert_eq!(*line, format!("closing {} {}", length, sum));
+        assert!(readme.contains(&format!("| {} | {} |", length / 6, sum)));
+    }
+}
+
+#[test]
+fn the_list_has_the_subkeys_of_the_stages() {
+    let subkeys: String = (0..=10)
+        .map(|s| subkey_digits(&hex(&closed_form::<4>(KEYS[0], s).to_bytes())))
+        .collect();
+    let line = &fields_of("list")[0];
+    assert_eq!(line[..], ["list", KEYS[0], "10", &subkeys]);
+    let stages = fields_of("stage");
+    assert_eq!(line[3].len(), 11 * 24);
+    assert_eq!(line[3][24..48], stages[0][4]);
+    assert_eq!(line[3][48..72], stages[1][4]);
+}
+
+#[test]
+fn the_turned_list_is_the_list_from_its_end() {
+    let list = states(&fields_of("list")[0][3]);
+    let turned = &fields_of("turned")[0];
+    assert_eq!(turned[..3], ["turned", KEYS[0], "10"]);
+    let turned = states(&turned[3]);
+    assert_eq!((list.len(), turned.len()), (11, 11));
+    assert_eq!((turned[0], turned[10]), (list[10], list[0]));
+    for r in 1..10 {
+        assert_eq!(inverse_theta(&turned[r]), list[10 - r]);
+    }
+}
+
+#[test]
+fn the_list_enciphers_and_the_turned_list_deciphers() {
+    let list = states(&fields_of("list")[0][3]);
+    let turned = states(&fields_of("turned")[0][3]);
+    let mut generator = Generator::new(41);
+    for _ in 0..32 {
+        let block = generator.bytes(12);
+        let state = Matrix::from_bytes(&block).expect("12 bytes");
+        let enciphered = encrypt_with(&list, &state).expect("there are subkeys");
+        let by_key = encrypt(&bytes(KEYS[0]), 10, &block);
+        assert_eq!(by_key, Ok(enciphered.to_bytes()));
+        assert_eq!(encrypt_with(&turned, &enciphered), Ok(state));
+    }
+}
+
+/// 200 is hex C8, 4661 is hex 1235, 16909060 is hex 01020304, and 300 is hex 12C.
+#[test]
+fn the_plain_bytes_are_as_written_by_hand() {
+    let written = [
+        "plain 200 4661 16909060 1 00c812350102030401475244",
+        "plain 7 1 300 2 000700010000012c02475244",
+    ];
+    assert_eq!(lines_of("plain"), written);
+}
+
+#[test]
+fn the_plain_bytes_are_read_again() {
+    for line in fields_of("plain") {
+        let read = Grant::from_plain_bytes(&bytes(&line[5])).expect("a grant");
+        let said = format!(
+            "plain {} {} {} {} {}",
+            read.contractor, read.count, read.block, read.right, line[5]
+        );
+        assert_eq!(line.join(" "), said);
+    }
+}
+
+#[test]
+fn the_walks_are_as_counted_by_hand() {
+    let counted = [
+        "walk 12 0 0 0 forward",
+        "walk 12 0 6 6 forward",
+        "walk 12 0 7 5 back",
+        "walk 12 11 0 1 forward",
+        "walk 12 0 11 1 back",
+        "walk 18 0 9 9 forward",
+        "walk 18 0 10 8 back",
+        "walk 24 0 12 12 forward",
+        "walk 24 0 13 11 back",
+        "walk 24 23 1 2 forward",
+        "walk 24 1 23 2 back",
+    ];
+    assert_eq!(lines_of("walk"), counted);
+}
+
+/// The place after single steps one way, going round at the ends.
+fn place_after(turn: usize, from: usize, steps: usize, way: &str) -> usize {
+    let mut place = from;
+    for _ in 0..steps {
+        place = match way {
+            "forward" if place == turn - 1 => 0,
+            "forward" => place + 1,
+            "back" if place == 0 => turn - 1,
+            "back" => place - 1,
+            other => panic!("{} is no way", other),
+        };
+    }
+    place
+}
+
+/// No walk is longer than half a turn, and one of half a turn goes forward.
+#[test]
+fn the_walks_arrive_by_the_shorter_way() {
+    for line in fields_of("walk") {
+        let [turn, from, to, steps] = [1, 2, 3, 4].map(|k| number(&line[k]));
+        assert_eq!(place_after(turn, from, steps, &line[5]), to);
+        assert!(2 * steps < turn || (2 * steps == turn && line[5] == "forward"));
+        assert!(steps > 0 || line[5] == "forward");
+    }
+}
+
+#[test]
+fn the_standings_are_as_worked_out_by_hand() {
+    let written = [
+        "standing 0 no",
+        "standing 1 yes",
+        "standing 2 no",
+        "standing 65532 no",
+        "standing 65533 yes",
+        "standing 65534 no",
+        "standing 65535 no",
+    ];
+    assert_eq!(lines_of("standing"), written);
+}
+
+/// A contractor can be withdrawn only if in standing, and is refused for being in
+/// standing only when entered.
+#[test]
+fn the_standings_show_in_the_calls_of_the_roll() {
+    for line in fields_of("standing") {
+        let count = line[1].parse().expect("a count");
+        let mut roll = Roll::with_counts([count; 200]);
+        let entered = roll.enter(7);
+        assert_eq!(entered == Err(Refusal::InStanding), line[2] == "yes");
+        let mut roll = Roll::with_counts([count; 200]);
+        assert_eq!(roll.withdraw(7).is_ok(), line[2] == "yes");
+    }
+}
+
+#[test]
+fn the_orders_are_as_written_by_hand() {
+    let written = [
+        "order withdraw 6 20 6",
+        "order issue 1 2 1",
+        "order issue 2 6 2",
+        "order issue 6 7 6",
+        "order issue 7 20 7",
+        "order check 1 2 1",
+        "order check 2 3 2",
+        "order check 3 7 3",
+        "order check 7 8 7",
+        "order check 8 9 8",
+        "order check 9 10 9",
+        "order check 10 20 10",
+        "order check 20 23 20",
+    ];
+    assert_eq!(lines_of("order"), written);
+}
+
+/// That both reasons of a pair hold: with nothing wrong the call is not refused, and
+/// what makes one reason hold is enough to have it refused with this reason.
+fn check_reasons(order: &[u8], call_with: fn(&[u8]) -> String) {
+    assert_eq!(call_with(&[]), "0");
+    for reason in order {
+        assert_eq!(call_with(&[*reason]), reason.to_string());
+    }
+    for pair in order.windows(2) {
+        assert_eq!(call_with(pair), pair[0].to_string());
+    }
+}
+
+#[test]
+fn each_reason_of_a_pair_holds_by_itself() {
+    check_reasons(&[6, 20], withdraw_with);
+    check_reasons(&[1, 2, 6, 7, 20], issue_with);
+    check_reasons(&[1, 2, 3, 7, 8, 9, 10, 20, 23], check_with);
+}
+
+/// Why there are no lines for enter: no contractor outside 1 to 200 has a count, and
+/// no count is both one in standing and one that is full.
+#[test]
+fn no_two_reasons_for_enter_hold_together() {
+    for contractor in (0..=65_535).filter(|number| !(1..=200).contains(number)) {
+        let count = Roll::new().count(contractor);
+        assert_eq!(count, Err(Refusal::NoSuchContractor));
+    }
+    for full in [65_534, 65_535] {
+        let mut roll = Roll::with_counts([full; 200]);
+        assert_eq!(roll.withdraw(7), Err(Refusal::NotInStanding));
+    }
+    assert!(lines_of("order enter").is_empty());
+}
