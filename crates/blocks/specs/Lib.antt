@@ -1,2 +1,3 @@
 pub mod Blocks
 pub mod Claims
+pub mod KnownAnswers

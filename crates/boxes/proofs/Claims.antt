@@ -2,14 +2,13 @@
 use mathlib.Core.Path.{_≡_, refl, sym, ap, _∙_}
 use mathlib.Core.Bool.{Bool, true, false}
 use mathlib.Core.List.{List, [], _∷_}
-use Prim.Native.Nat.{ℕ, _+_, _*_, _<_}
-use lib.Dec.{ltb, lit<}
-use lib.ListN.{length, take, drop, replicate}
-use lib.Seq.{take-at}
-use borrow.Author.Tests.{ltb-true, ltb-false, eqb-true}
+use Prim.Native.Nat.{ℕ, _+_, _*_, _≤_}
+use lib.Dec.{leb, lit<}
+use lib.ListN.{length, replicate}
+use borrow.Author.Tests.{leb-true, leb-false, eqb-true}
 use Rattle.refusal.specs.Tries.{first, written, answered, NoneHolds}
 use Rattle.refusal.proofs.Tries.{none-holds, none-given}
-use Rattle.refusal.proofs.Answers.{put}
+use Rattle.refusal.proofs.Answers.{starts}
 use Rattle.cipher.specs.Cipher.{cipherBlock}
 use Rattle.roll.specs.Roll.{countOf, inStanding, counted, enteredRoll, countsOf, rollOf, countsBytes, rollBytes}
 use Rattle.histories.specs.Histories.{Change, enter, rollAfter}
@@ -19,7 +18,9 @@ use Rattle.revocation.specs.Claims.{Issued, OpensNothing, IssuedOpens, RevokedN
 use Rattle.revocation.proofs.Claims.{issued-opens, revoked-never-opens, revoked-in-two-rooms}
 use Rattle.capi.specs.Codes.{callCode}
 use Rattle.capi.specs.Hosts.{enterCallRoll, issueCallTries, issueCallNumber, issueCallOutput}
+use Rattle.capi.specs.Claims.{CallNeverZero}
 use Rattle.capi.proofs.Opens.{call-passed, call-given}
+use Rattle.capi.proofs.Claims.{call-never-zero}
 use Rattle.boxes.specs.Boxes.{called, bytesAfter, here, CallIssued, grantGiven}
 use Rattle.boxes.specs.Claims.{Refuses, BytesFollowRoll, CallIssuedOpens, CallsRevoke, CallsRevokeInTwoRooms, CallsRevokeSomething}
 use Rattle.boxes.proofs.Stored.{is-roll, after-holds, withdrawn-read}
@@ -40,20 +41,13 @@ module _ (key : List ℕ) (rounds : ℕ) (roll : List ℕ) (contractor block rig
   issued : Issued key rounds (rollOf roll) contractor block right out
   issued = record {
     key-bytes = i .key-bytes;
-    is-roll = is-roll roll (i .roll-bytes) long;
     block-small = i .block-small;
     number = none-given (issueTries key rounds (rollOf roll) contractor right out) (allowed .0, (allowed .1 .0, allowed .1 .1 .1));
   }
 
-  twelve : length (issuedGrant key rounds (rollOf roll) contractor block right) ≡ 12
-  unfolding issuedGrant cipherBlock
-  twelve = refl
-
   given : grantGiven key rounds roll contractor block right out ≡ issuedGrant key rounds (rollOf roll) contractor block right
-  unfolding issueCallOutput
-  given =
-      let g = issuedGrant key rounds (rollOf roll) contractor block right in
-      ap (take 12) (sym (put (issueCallNumber key rounds roll contractor right out) g out (i .number))) ∙ take-at g (drop (length g) out) 12 twelve
+  unfolding issueCallOutput issuedGrant cipherBlock
+  given = starts (issueCallNumber key rounds roll contractor right out) (issuedGrant key rounds (rollOf roll) contractor block right) out (i .number) .1
 
   pub opens : callCode key rounds roll (grantGiven key rounds roll contractor block right out) block right ≡ 1000 * right + contractor
   unfolding IssuedOpens
@@ -65,13 +59,16 @@ module _ (key : List ℕ) (rounds : ℕ) (roll : List ℕ) (contractor block rig
   -- where it opens nothing on the roll after some calls, gordzila_check refuses it on the bytes after them
   refused : (hs : List Change) → OpensNothing key rounds (rollAfter hs (rollOf roll)) (issuedGrant key rounds (rollOf roll) contractor block right)
       → Refuses key rounds (bytesAfter hs roll) (grantGiven key rounds roll contractor block right out)
-  refused hs n b r = by (ltb (callCode key rounds (bytesAfter hs roll) (grantGiven key rounds roll contractor block right out) b r) 1000) refl
+  unfolding CallNeverZero
+  refused hs n b r = (call-never-zero key rounds (bytesAfter hs roll) g b r, by (leb (callCode key rounds (bytesAfter hs roll) g b r) 999) refl)
     where
-      by : (t : Bool) → ltb (callCode key rounds (bytesAfter hs roll) (grantGiven key rounds roll contractor block right out) b r) 1000 ≡ t
-          → callCode key rounds (bytesAfter hs roll) (grantGiven key rounds roll contractor block right out) b r < 1000
-      by true t = ltb-true _ 1000 t
+      g : List ℕ
+      g = grantGiven key rounds roll contractor block right out
+
+      by : (t : Bool) → leb (callCode key rounds (bytesAfter hs roll) g b r) 999 ≡ t → callCode key rounds (bytesAfter hs roll) g b r ≤ 999
+      by true t = leb-true _ 999 t
       by false t =
-          let e = call-passed key rounds (bytesAfter hs roll) (grantGiven key rounds roll contractor block right out) b r (ltb-false _ 1000 t) .1 in
+          let e = call-passed key rounds (bytesAfter hs roll) g b r (leb-false _ 999 t) .1 in
           absurd (n b r ((λ j. checkNumber key rounds (sym (after-holds hs roll (i .roll-bytes) long .read) j) (sym given j) b r) ∙ e))
 
 pub call-issued-opens : CallIssuedOpens
@@ -82,14 +79,16 @@ pub calls-revoke : CallsRevoke
 unfolding CallsRevoke RevokedNeverOpens
 calls-revoke key rounds roll contractor block right out i hs w =
     refused key rounds roll contractor block right out i hs
-    (revoked-never-opens key rounds (rollOf roll) contractor block right out (issued key rounds roll contractor block right out i) hs
+    (revoked-never-opens key rounds (rollOf roll) contractor block right out (issued key rounds roll contractor block right out i)
+    (is-roll roll (i .roll-bytes) (long key rounds roll contractor block right out i)) hs
     (withdrawn-read w (i .roll-bytes) (long key rounds roll contractor block right out i)))
 
 pub calls-revoke-in-two-rooms : CallsRevokeInTwoRooms
 unfolding CallsRevokeInTwoRooms RevokedInTwoRooms
 calls-revoke-in-two-rooms key rounds roll contractor block right out i xs ys zs m w =
     refused key rounds roll contractor block right out i zs
-    (revoked-in-two-rooms key rounds (rollOf roll) contractor block right out (issued key rounds roll contractor block right out i) xs ys zs m w)
+    (revoked-in-two-rooms key rounds (rollOf roll) contractor block right out (issued key rounds roll contractor block right out i)
+    (is-roll roll (i .roll-bytes) (long key rounds roll contractor block right out i)) xs ys zs m w)
 
 pub calls-revoke-something : CallsRevokeSomething
 unfolding CallsRevokeSomething bytesAfter called enterCallRoll first written answered rollOf countsOf rollBytes countsBytes countOf inStanding counted enteredRoll

@@ -2,7 +2,7 @@
 use mathlib.Core.Logic.{_⊎_}
 use mathlib.Core.Path.{_≡_}
 use mathlib.Core.List.{List, [], _∷_}
-use Prim.Native.Nat.{ℕ, _+_, _*_, _<_}
+use Prim.Native.Nat.{ℕ, _+_, _*_, _≤_}
 use lib.ListN.{length, replicate}
 use Rattle.blocks.specs.Blocks.{AreBytes}
 use Rattle.roll.specs.declared.Roll.{Roll}
@@ -27,9 +27,10 @@ CallIssuedOpens = (key : List ℕ) (rounds : ℕ) (roll : List ℕ) (contractor 
     → CallIssued key rounds roll contractor block right out
     → callCode key rounds roll (grantGiven key rounds roll contractor block right out) block right ≡ 1000 * right + contractor
 
--- gordzila_check answers with a refusal, whatever size block and right are asked for
+-- gordzila_check answers with a refusal, a number from 1 to 999, whatever size block and right are asked for
 abbrev pub Refuses : List ℕ → ℕ → List ℕ → List ℕ → Type 0
-Refuses key rounds roll grant = (block right : ℕ) → callCode key rounds roll grant block right < 1000
+Refuses key rounds roll grant = (block right : ℕ)
+    → (1 ≤ callCode key rounds roll grant block right) × (callCode key rounds roll grant block right ≤ 999)
 
 -- whatever is entered and withdrawn: once a gordzila_withdraw of its contractor has answered 0, the grant is refused, under the key and round
 -- count that it was issued with

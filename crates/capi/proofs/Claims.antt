@@ -11,9 +11,9 @@ use Rattle.grant.specs.declared.Right.{Right}
 use Rattle.grant.specs.declared.Right.the-variants.{Reading, Overwriting}
 use Rattle.grant.specs.declared.Verdict.the-variants.{Opens, Refused}
 use Rattle.grant.specs.Grants.{rightNumber}
-use Rattle.capi.specs.Claims.{CodesTellVerdicts, ChecksNameContractors, CallInOrder, CallOpensExactlyWhen}
+use Rattle.capi.specs.Claims.{CodesTellVerdicts, ChecksNameContractors, CallInOrder, CallOpensExactlyWhen, CallNeverZero}
 use Rattle.capi.proofs.Calls.{checked-contractor}
-use Rattle.capi.proofs.Opens.{in-order, call-opening, call-accepted}
+use Rattle.capi.proofs.Opens.{in-order, call-opening, call-accepted, never-zero}
 
 -- right and contractor from the number
 right-tells : (a b : Right) (c d : ℕ) → 1 ≤ c → c ≤ 200 → 1 ≤ d → d ≤ 200 → 1000 * rightNumber a + c ≡ 1000 * rightNumber b + d → a ≡ b
@@ -57,3 +57,7 @@ pub call-opens-exactly-when : CallOpensExactlyWhen
 unfolding CallOpensExactlyWhen
 call-opens-exactly-when key hk rounds roll grant hg block few right =
     (call-opening key hk rounds roll grant hg block few right, call-accepted key hk rounds roll grant hg block few right)
+
+pub call-never-zero : CallNeverZero
+unfolding CallNeverZero
+call-never-zero = never-zero

@@ -1,12 +1,12 @@
 -- The C call's number: by its order line, and when it is one of a grant that opens.
-use mathlib.Core.Path.{_≡_, refl, sym, ap, ap₂, _∙_}
+use mathlib.Core.Path.{_≡_, refl, sym, ap, ap₂, _∙_, subst⁻¹}
 use mathlib.Core.Bool.{Bool, true, false, cond, _&&_}
 use mathlib.Core.List.{List}
 use Prim.Native.Nat.{ℕ, _+_, _*_, _≤_, _<_}
 use native.Mathlib.Omega.{arith}
 use lib.Dec.{eqb, lit<}
 use lib.ListN.{length}
-use borrow.Author.Tests.{eqb-true, eq-eqb}
+use borrow.Author.Tests.{eqb-true, eqb-false, eq-eqb}
 use Rattle.refusal.specs.Tries.{first, answered}
 use Rattle.refusal.proofs.Tries as tries
 use Rattle.refusal.proofs.Answers.{answer-done}
@@ -14,6 +14,8 @@ use Rattle.blocks.specs.Blocks.{AreBytes}
 use Rattle.sizes.specs.Sizes.{keyLength, roundsAllowed}
 use Rattle.roll.specs.declared.Roll.{Roll}
 use Rattle.roll.specs.Roll.{countOf, inStanding, rollOf}
+use Rattle.roll.proofs.Contractors.{a-contractor}
+use Rattle.grant.proofs.Tests.{a-grant}
 use Rattle.grant.specs.Grants.{isRight, isGrant, contractorIn, countIn, blockIn, rightIn}
 use Rattle.grant.specs.Calls.{openedGrant, plainTries, checkTries, checkNumber, checkContractor, checkRight}
 use Rattle.revocation.specs.Claims.{Opening, Accepted, OpensExactlyWhen}
@@ -57,6 +59,23 @@ module _ (key : List ℕ) (rounds : ℕ) (roll grant : List ℕ) (block right : 
     code = by-line (keyLength (length key)) (roundsAllowed (length key) rounds) (eqb (length roll) 400) (eqb (length grant) 12) (isRight right)
         (first (plainTries (openedGrant key rounds grant) (rollOf roll) block right)) (rightIn (openedGrant key rounds grant)) (contractorIn (openedGrant key rounds grant));
   }
+
+-- ---- no answer is 0
+answer-some : (n x : ℕ) → (n ≡ 0 → 1 ≤ x) → 1 ≤ answered n x n
+unfolding answered
+answer-some n x h = by (eqb n 0) refl
+  where
+    by : (b : Bool) → eqb n 0 ≡ b → 1 ≤ cond b x n
+    by true e = h (eqb-true n 0 e)
+    by false e = omega (arith, eqb-false n 0 e)
+
+pub never-zero : (key : List ℕ) (rounds : ℕ) (roll grant : List ℕ) (block right : ℕ) → 1 ≤ callCode key rounds roll grant block right
+never-zero key rounds roll grant block right =
+    let o = in-order key rounds roll grant block right in
+    let p = openedGrant key rounds grant in
+    subst⁻¹ (λ (n : ℕ). 1 ≤ n) (o .code)
+    (answer-some (first (callTries key rounds roll grant block right)) (1000 * rightIn p + contractorIn p)
+    (λ e. omega (arith, a-contractor (contractorIn p) (a-grant p (o .tries .none-holds e .1 .1 .1 .1 .0) .contractor) .least)))
 
 -- ---- refusals are below 1,000
 below : (b : Bool) (x y : ℕ) → x < 1000 → y < 1000 → cond b x y < 1000

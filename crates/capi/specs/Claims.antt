@@ -44,3 +44,7 @@ unfoldable pub CallOpensExactlyWhen : Type 0
 CallOpensExactlyWhen = (key : List ℕ) → AreBytes key → (rounds : ℕ) (roll grant : List ℕ) → AreBytes grant → (block : ℕ) → block < 4294967296 → (right : ℕ)
     → (1000 ≤ callCode key rounds roll grant block right → (length roll ≡ 400) × Opening key rounds (rollOf roll) grant block right)
     × (length roll ≡ 400 → (o : Opening key rounds (rollOf roll) grant block right) → callCode key rounds roll grant block right ≡ 1000 * right + o .contractor)
+
+-- every answer of the C call is 1 or more: a refusal is a number from 1 to 999, never 0
+unfoldable pub CallNeverZero : Type 0
+CallNeverZero = (key : List ℕ) (rounds : ℕ) (roll grant : List ℕ) (block right : ℕ) → 1 ≤ callCode key rounds roll grant block right

@@ -1,9 +1,9 @@
 -- The worked cases of document 01, "Thirteen proved cases", as one list, in its order, and the claim over the list. What is given is
 -- computed from the definitions that the contracts cite; what is expected is document 01's.
-use mathlib.Core.Path.{_≡_}
-use mathlib.Core.List.{List, [], _∷_, _++_}
+use mathlib.Core.List.{List, [], _∷_}
 use Prim.Native.Nat.{ℕ}
 use lib.ListN.{getD, replicate}
+use Rattle.basics.specs.Cases.{Case, _is_, Hold, joined}
 use Rattle.field.specs.Field.{_⊕_, times, cubeRoot}
 use Rattle.sbox.specs.Sbox.{sbox}
 use Rattle.layers.specs.State.{State}
@@ -12,19 +12,6 @@ use Rattle.schedule.specs.Columns.{columnRule}
 use Rattle.schedule.specs.Stages.{stage}
 use Rattle.grant.specs.declared.Right.the-variants.{Overwriting}
 use Rattle.grant.specs.Grants.{rightNumber, plainGrant}
-
-pub record Case : Type 0 where
-  pub given : List ℕ
-  pub expected : List ℕ
-
-infix 20 _is_
-abbrev pub _is_ : List ℕ → List ℕ → Case
-_is_ a b = record { given = a; expected = b }
-
--- the bytes of a state, column after column
-abbrev pub bytes : State → List ℕ
-bytes [] = []
-bytes (c ∷ cs) = c ++ bytes cs
 
 -- the diffusion of the column x y z: column 0 of the diffusion of a state that has it there, and other columns elsewhere
 abbrev pub diffusionOf : ℕ → ℕ → ℕ → List ℕ
@@ -46,16 +33,11 @@ cases =
     ∷ (diffusionOf 0x03 0x04 0x06 is (0x01 ∷ 0x00 ∷ 0x00 ∷ []))
     ∷ (columnRule cubeRoot 1 (0x01 ∷ 0x00 ∷ 0x00 ∷ []) is (0x1D ∷ 0x1C ∷ 0x1C ∷ []))
     ∷ (columnRule (cubeRoot ⊕ 0x01) 1 (0x1D ∷ 0x1C ∷ 0x1C ∷ []) is (0x01 ∷ 0x00 ∷ 0x00 ∷ []))
-    ∷ (bytes (permuted counting)
+    ∷ (joined (permuted counting)
     is (0x00 ∷ 0x04 ∷ 0x08 ∷ 0x03 ∷ 0x01 ∷ 0x0B ∷ 0x06 ∷ 0x0A ∷ 0x02 ∷ 0x09 ∷ 0x07 ∷ 0x05 ∷ []))
     ∷ (stage 2 (replicate 12 0x00) 1 is (0xA9 ∷ 0x13 ∷ 0x13 ∷ 0x07 ∷ 0x53 ∷ 0x53 ∷ 0xCC ∷ 0xE3 ∷ 0xE3 ∷ 0x70 ∷ 0x04 ∷ 0x04 ∷ []))
     ∷ (plainGrant 7 1 300 (rightNumber Overwriting) is (0x00 ∷ 0x07 ∷ 0x00 ∷ 0x01 ∷ 0x00 ∷ 0x00 ∷ 0x01 ∷ 0x2C ∷ 0x02 ∷ 0x47 ∷ 0x52 ∷ 0x44 ∷ []))
     ∷ []
-
--- what is given is what is expected, in every case of a list
-abbrev pub Hold : List Case → Type 0
-Hold [] = Unit {0}
-Hold (c ∷ cs) = (c .given ≡ c .expected) × Hold cs
 
 -- the claim. The term of this type stands in proofs/Cases.antt
 unfoldable pub CasesHold : Type 0

@@ -6,12 +6,12 @@ use mathlib.Core.List.{List, _++_}
 use Prim.Native.Nat.{ℕ, _+_, _*_, _/_, _≤_, _<_}
 use native.Mathlib.Omega.{arith}
 use lib.ListN.{length, take, drop, List·getD-eq-default, length-take}
-use lib.Seq.{getD-take, getD-drop, take-at}
+use lib.Seq.{getD-take, getD-drop}
 use lib.Dec.{lit<}
 use borrow.Author.Tests.{eqb-true, eq-eqb, le-leb}
 use Rattle.refusal.proofs.Tests.{below-or-not}
 use Rattle.refusal.proofs.Tries.{none-given, none-holds}
-use Rattle.refusal.proofs.Answers.{put}
+use Rattle.refusal.proofs.Answers.{put, starts}
 use Rattle.layers.specs.State.{State}
 use Rattle.rounds.specs.Rounds.{turned, enciphered, AllStates}
 use Rattle.rounds.proofs.Turned.{turned-states}
@@ -71,8 +71,7 @@ module _ (list block : List ℕ) (hl : AreBytes list) (hb : AreBytes block) (e :
 -- the twelve bytes that a run wrote
 run-written : (list block out : List ℕ) → engineNumber list block out ≡ 0 → take 12 (engineOutput list block out) ≡ engineBlock list block
 unfolding engineBlock
-run-written list block out e =
-    let b = engineBlock list block in ap (take 12) (sym (put (engineNumber list block out) b out e)) ∙ take-at b (drop 12 out) 12 refl
+run-written list block out e = starts (engineNumber list block out) (engineBlock list block) out e .1
 
 pub engine-restores : EngineRestores
 unfolding EngineRestores

@@ -1,3 +1,4 @@
 pub mod Tests
 pub mod Verdicts
 pub mod Ciphers
+pub mod KnownAnswers

@@ -1,2 +1,3 @@
 pub mod Grants
 pub mod Calls
+pub mod KnownAnswers

@@ -1,3 +1,4 @@
 pub mod Zeros
 pub mod Whole
 pub mod Walks
+pub mod KnownAnswers

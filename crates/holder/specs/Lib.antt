@@ -1,2 +1,3 @@
 pub mod Holder
 pub mod Calls
+pub mod KnownAnswers

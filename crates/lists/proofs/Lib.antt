@@ -3,3 +3,4 @@ pub mod Filled
 pub mod Turned
 pub mod Lists
 pub mod Claims
+pub mod KnownAnswers

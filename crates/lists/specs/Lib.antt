@@ -1,3 +1,4 @@
 pub mod Lists
 pub mod Sized
 pub mod Claims
+pub mod KnownAnswers

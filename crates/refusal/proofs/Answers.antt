@@ -3,10 +3,11 @@
 use mathlib.Core.Path.{_≡_, refl, sym, ap, _∙_}
 use mathlib.Core.Bool.{Bool, true, false, cond}
 use mathlib.Core.List.{List, _++_}
-use Prim.Native.Nat.{ℕ, _<_}
+use Prim.Native.Nat.{ℕ, _≤_, _<_}
 use native.Mathlib.Omega.{arith}
 use lib.Dec.{eqb}
-use lib.ListN.{length, drop}
+use lib.ListN.{length, take, drop, length-append}
+use lib.Seq.{take-at}
 use borrow.Author.Tests.{eq-eqb, ne-eqb, eqb-true}
 use Rattle.refusal.specs.Tries.{Try, first, written, answered}
 
@@ -19,6 +20,14 @@ kept n bytes out h = sym (ap (λ (b : Bool). cond b (bytes ++ drop (length bytes
 pub put : (n : ℕ) (bytes out : List ℕ) → n ≡ 0 → bytes ++ drop (length bytes) out ≡ written n bytes out
 unfolding written
 put n bytes out e = sym (ap (λ (b : Bool). cond b (bytes ++ drop (length bytes) out) out) (eq-eqb n 0 e))
+
+-- an output of a call that did not refuse starts with the bytes
+pub starts : (n : ℕ) (bytes out : List ℕ) → n ≡ 0 → (length bytes ≤ length (written n bytes out)) × (take (length bytes) (written n bytes out) ≡ bytes)
+starts n bytes out e =
+    let w = put n bytes out e in (
+      omega (arith, length-append bytes (drop (length bytes) out), ap length w),
+      ap (take (length bytes)) (sym w) ∙ take-at bytes (drop (length bytes) out) (length bytes) refl,
+    )
 
 -- a refusal with the number n
 pub refuses : (ts : List Try) (n : ℕ) (bytes out : List ℕ) → 0 < n → first ts ≡ n → (n ≡ first ts) × (out ≡ written (first ts) bytes out)

@@ -44,8 +44,8 @@ revoked-never-opens = revoked
 
 pub revoked-in-two-rooms : RevokedInTwoRooms
 unfolding RevokedInTwoRooms
-revoked-in-two-rooms key rounds roll contractor block right out i xs ys zs m w =
-    revoked-asked key rounds roll contractor block right out i zs (elim w [ inl l ↦ left-seen m l | inr r ↦ right-seen m r ])
+revoked-in-two-rooms key rounds roll contractor block right out i z xs ys zs m w =
+    revoked-asked key rounds roll contractor block right out i z zs (elim w [ inl l ↦ left-seen m l | inr r ↦ right-seen m r ])
 
 entered-7 : IsRoll (enteredRoll emptyRoll 7)
 unfolding changed
@@ -53,7 +53,7 @@ entered-7 = changed-roll (enter 7) emptyRoll empty-roll
 
 pub revocation-happens : RevocationHappens
 unfolding RevocationHappens first answered emptyRoll countOf inStanding counted enteredRoll
-revocation-happens = (record { key-bytes = zeros-small (lit< tt) 12; is-roll = entered-7; block-small = lit< tt; number = refl }, here refl)
+revocation-happens = ((record { key-bytes = zeros-small (lit< tt) 12; block-small = lit< tt; number = refl }, entered-7), here refl)
 
 pub others-undisturbed : OthersUndisturbed
 unfolding OthersUndisturbed

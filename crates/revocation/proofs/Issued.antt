@@ -16,7 +16,7 @@ use Rattle.cipher.proofs.Claims.{deciphers-what-was-enciphered}
 use Rattle.roll.specs.declared.Roll.{Roll}
 use Rattle.roll.specs.Roll.{countOf}
 use Rattle.roll.proofs.Contractors.{Contractor, a-contractor, a-standing}
-use Rattle.histories.specs.Histories.{Change, rollAfter, Withdrawn, Withdraws}
+use Rattle.histories.specs.Histories.{Change, rollAfter, Withdrawn, Withdraws, IsRoll}
 use Rattle.histories.proofs.Counts.{counted-up, asked-counts}
 use Rattle.grant.specs.Grants.{isRight, plainGrant, contractorIn, countIn, blockIn, rightIn}
 use Rattle.grant.specs.Calls.{issueTries, issuedGrant, openedGrant}
@@ -129,8 +129,8 @@ module _ (key : List ℕ) (rounds : ℕ) (roll : Roll) (contractor block right :
       let z : countOf roll contractor ≡ countOf later contractor = sym (names .1) ∙ same ∙ ap (countOf later) (names .0) in
       omega (arith, l)
 
-  pub revoked : (hs : List Change) → Withdrawn contractor hs roll → OpensNothing key rounds (rollAfter hs roll) (issuedGrant key rounds roll contractor block right)
-  revoked hs w = risen (rollAfter hs roll) (counted-up hs roll (i .is-roll) contractor w)
+  pub revoked : IsRoll roll → (hs : List Change) → Withdrawn contractor hs roll → OpensNothing key rounds (rollAfter hs roll) (issuedGrant key rounds roll contractor block right)
+  revoked z hs w = risen (rollAfter hs roll) (counted-up hs roll z contractor w)
 
-  pub revoked-asked : (hs : List Change) → Withdraws contractor hs → OpensNothing key rounds (rollAfter hs roll) (issuedGrant key rounds roll contractor block right)
-  revoked-asked hs w = risen (rollAfter hs roll) (asked-counts hs roll (i .is-roll) contractor (allowed .1 .1 .1 .0) (allowed .1 .1 .1 .1 .1 .0) w)
+  pub revoked-asked : IsRoll roll → (hs : List Change) → Withdraws contractor hs → OpensNothing key rounds (rollAfter hs roll) (issuedGrant key rounds roll contractor block right)
+  revoked-asked z hs w = risen (rollAfter hs roll) (asked-counts hs roll z contractor (allowed .1 .1 .1 .0) (allowed .1 .1 .1 .1 .1 .0) w)

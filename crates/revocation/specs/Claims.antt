@@ -63,10 +63,9 @@ EachRefusalFirst = (key : List ℕ) (rounds : ℕ) (roll : Roll) (contractor : �
     → OrderOfCalls key rounds roll contractor grant block right out
 
 -- ---- issue, then check
--- an issue that is not refused: a key, a roll and a size block as the code has them
+-- an issue that is not refused: a key and a size block as the code has them
 pub record Issued (key : List ℕ) (rounds : ℕ) (roll : Roll) (contractor block right : ℕ) (out : List ℕ) : Type 0 where
   pub key-bytes : AreBytes key
-  pub is-roll : IsRoll roll
   pub block-small : block < 4294967296
   pub number : issueNumber key rounds roll contractor right out ≡ 0
 
@@ -90,7 +89,7 @@ OpensNothing key rounds roll grant = (block right : ℕ) → checkNumber key rou
 -- nothing, under the key and round count that it was issued with
 unfoldable pub RevokedNeverOpens : Type 0
 RevokedNeverOpens = (key : List ℕ) (rounds : ℕ) (roll : Roll) (contractor block right : ℕ) (out : List ℕ)
-    → Issued key rounds roll contractor block right out
+    → Issued key rounds roll contractor block right out → IsRoll roll
     → (hs : List Change) → Withdrawn contractor hs roll
     → OpensNothing key rounds (rollAfter hs roll) (issuedGrant key rounds roll contractor block right)
 
@@ -98,7 +97,7 @@ RevokedNeverOpens = (key : List ℕ) (rounds : ℕ) (roll : Roll) (contractor bl
 -- the one that was accepted or not
 unfoldable pub RevokedInTwoRooms : Type 0
 RevokedInTwoRooms = (key : List ℕ) (rounds : ℕ) (roll : Roll) (contractor block right : ℕ) (out : List ℕ)
-    → Issued key rounds roll contractor block right out
+    → Issued key rounds roll contractor block right out → IsRoll roll
     → (xs ys zs : List Change) → Merge xs ys zs → Withdraws contractor xs ⊎ Withdraws contractor ys
     → OpensNothing key rounds (rollAfter zs roll) (issuedGrant key rounds roll contractor block right)
 
@@ -106,7 +105,8 @@ RevokedInTwoRooms = (key : List ℕ) (rounds : ℕ) (roll : Roll) (contractor bl
 -- is withdrawn
 unfoldable pub RevocationHappens : Type 0
 RevocationHappens =
-    Issued (replicate 12 0) 10 (enteredRoll emptyRoll 7) 7 300 2 (replicate 12 0) × Withdrawn 7 (withdraw 7 ∷ []) (enteredRoll emptyRoll 7)
+    (Issued (replicate 12 0) 10 (enteredRoll emptyRoll 7) 7 300 2 (replicate 12 0) × IsRoll (enteredRoll emptyRoll 7))
+    × Withdrawn 7 (withdraw 7 ∷ []) (enteredRoll emptyRoll 7)
 
 -- ---- others
 -- entering or withdrawing a contractor changes no check of a grant to another

@@ -7,3 +7,4 @@ pub mod Padded
 pub mod Stages
 pub mod Keys
 pub mod Claims
+pub mod KnownAnswers

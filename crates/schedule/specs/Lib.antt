@@ -1,3 +1,4 @@
 pub mod Columns
 pub mod Stages
 pub mod Claims
+pub mod KnownAnswers

@@ -1,10 +1,8 @@
 // The same through the C calls, on a roll of 400 bytes.
 
 ghost use mathlib.Core.Path.{_≡_};
-ghost use Prim.Native.Nat.{_+_, _*_};
-ghost use Rattle.refusal.specs.Tries.{answered};
-ghost use Rattle.capi.specs.Hosts.{issueCallNumber, issueCallOutput};
-ghost use Rattle.verdicts.specs.Decisions.{CallDecides};
+ghost use Rattle.capi.specs.Hosts.{issueCallOutput};
+ghost use Rattle.verdicts.specs.Decisions.{CallDecides, issuedCode};
 
 // The answer of the plotter's call.
 pub fn call_check(key: &[u8], rounds: u32, roll: &[u8], grant: &[u8], block: u32, right: u32) -> u32
@@ -24,7 +22,7 @@ pub fn call_issue_then_check(
     right: u32,
     out: &mut [u8],
 ) -> u32
-    ensures { λ r. ⌜ r ≡ answered (issueCallNumber (now (key .entry)) rounds (now (roll .entry)) contractor right (now (out .entry))) (1000 * right + contractor) (issueCallNumber (now (key .entry)) rounds (now (roll .entry)) contractor right (now (out .entry))) ⌝ }
+    ensures { λ r. ⌜ r ≡ issuedCode (now (key .entry)) rounds (now (roll .entry)) contractor right (now (out .entry)) ⌝ }
     ensures { λ _. ⌜ now (out .exit) ≡ issueCallOutput (now (key .entry)) rounds (now (roll .entry)) contractor block right (now (out .entry)) ⌝ }
 {
     let number = capi::gordzila_issue(key, rounds, roll, contractor, block, right, out);

@@ -1,0 +1,51 @@
+-- Known answers for grants: plain bytes written and read, and the order of refusals where two reasons hold together, as the independent
+-- program prints them. Each comment begins its line.
+use mathlib.Core.List.{List, [], _∷_}
+use Prim.Native.Nat.{ℕ}
+use lib.ListN.{replicate}
+use Rattle.basics.specs.Cases.{Case, _is_, threes}
+use Rattle.refusal.specs.Tries.{first}
+use Rattle.roll.specs.Roll.{emptyRoll}
+use Rattle.grant.specs.Grants.{plainGrant, contractorIn, countIn, blockIn, rightIn}
+use Rattle.grant.specs.Calls.{issueNumber, plainTries, checkNumber}
+
+abbrev pub zeros : ℕ → List ℕ
+zeros n = replicate n 0
+
+-- a grant for another size block and another right than those asked for below, of a contractor who is not in standing
+abbrev pub plain : List ℕ
+plain = threes (0x00C812 ∷ 0x350102 ∷ 0x030401 ∷ 0x475244 ∷ [])
+
+unfoldable pub knownAnswers : List Case
+knownAnswers =
+    -- plain 200 4661 16909060 1
+    (plainGrant 200 4661 16909060 1 is threes (0x00C812 ∷ 0x350102 ∷ 0x030401 ∷ 0x475244 ∷ []))
+    -- plain 7 1 300 2
+    ∷ (plainGrant 7 1 300 2 is threes (0x000700 ∷ 0x010000 ∷ 0x012C02 ∷ 0x475244 ∷ []))
+    -- and read again
+    ∷ ((contractorIn plain ∷ countIn plain ∷ blockIn plain ∷ rightIn plain ∷ []) is (200 ∷ 4661 ∷ 16909060 ∷ 1 ∷ []))
+    -- order issue 1 2
+    ∷ ((issueNumber (zeros 11) 12 emptyRoll 7 2 (replicate 12 0) ∷ []) is (1 ∷ []))
+    -- order issue 2 6
+    ∷ ((issueNumber (zeros 12) 12 emptyRoll 0 2 (replicate 12 0) ∷ []) is (2 ∷ []))
+    -- order issue 6 7
+    ∷ ((issueNumber (zeros 12) 10 emptyRoll 0 3 (replicate 12 0) ∷ []) is (6 ∷ []))
+    -- order issue 7 20
+    ∷ ((issueNumber (zeros 12) 10 emptyRoll 7 3 (replicate 12 0) ∷ []) is (7 ∷ []))
+    -- order check 1 2
+    ∷ ((checkNumber (zeros 11) 12 emptyRoll (zeros 12) 300 2 ∷ []) is (1 ∷ []))
+    -- order check 2 3
+    ∷ ((checkNumber (zeros 12) 12 emptyRoll (zeros 11) 300 2 ∷ []) is (2 ∷ []))
+    -- order check 3 7
+    ∷ ((checkNumber (zeros 12) 10 emptyRoll (zeros 11) 300 3 ∷ []) is (3 ∷ []))
+    -- order check 7 8
+    ∷ ((checkNumber (zeros 12) 10 emptyRoll (zeros 12) 300 3 ∷ []) is (7 ∷ []))
+    -- order check 8 9
+    ∷ ((first (plainTries (zeros 12) emptyRoll 300 2) ∷ []) is (8 ∷ []))
+    -- order check 9 10
+    ∷ ((first (plainTries plain emptyRoll 300 2) ∷ []) is (9 ∷ []))
+    -- order check 10 20
+    ∷ ((first (plainTries plain emptyRoll 16909060 2) ∷ []) is (10 ∷ []))
+    -- order check 20 23
+    ∷ ((first (plainTries plain emptyRoll 16909060 1) ∷ []) is (20 ∷ []))
+    ∷ []

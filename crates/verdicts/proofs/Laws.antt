@@ -1,0 +1,137 @@
+-- From what the calls' contracts say to what the functions of this crate promise.
+use mathlib.Core.Path.{_≡_, refl, sym, ap, _∙_, subst⁻¹}
+use mathlib.Core.List.{List}
+use Prim.Native.Nat.{ℕ, _+_, _*_, _≤_, _<_}
+use native.Mathlib.Omega.{arith}
+use lib.ListN.{length, take}
+use lib.Seq.{length-take-le}
+use Rattle.refusal.specs.declared.Reason.{Reason}
+use Rattle.refusal.specs.Reasons.{reasonNumber}
+use Rattle.refusal.specs.Tries.{answered}
+use Rattle.refusal.proofs.Reasons.{reason-positive}
+use Rattle.refusal.proofs.Answers.{starts, answer-refused, answer-done}
+use Rattle.blocks.specs.Blocks.{AreBytes}
+use Rattle.cipher.specs.Cipher.{cipherBlock}
+use Rattle.roll.specs.declared.Roll.{Roll}
+use Rattle.roll.specs.Roll.{rollOf}
+use Rattle.grant.specs.declared.Verdict.{Verdict}
+use Rattle.grant.specs.declared.Verdict.the-variants.{Opens, Refused}
+use Rattle.grant.specs.Grants.{verdictNumber, verdictContractor, verdictRight}
+use Rattle.grant.specs.Calls.{issueTries, issueNumber, issuedGrant, issueOutput, checkNumber, checkContractor, checkRight}
+use Rattle.revocation.specs.Claims.{OpensExactlyWhen, IssuedOpens}
+use Rattle.revocation.proofs.Claims.{opens-exactly-when, issued-opens}
+use Rattle.capi.specs.Codes.{callCode}
+use Rattle.capi.specs.Hosts.{issueCallTries, issueCallNumber, issueCallOutput}
+use Rattle.capi.specs.Claims.{CallOpensExactlyWhen, CallNeverZero}
+use Rattle.capi.proofs.Claims.{call-opens-exactly-when, call-never-zero}
+use Rattle.boxes.specs.Boxes.{CallIssued}
+use Rattle.boxes.specs.Claims.{CallIssuedOpens}
+use Rattle.boxes.proofs.Claims.{call-issued-opens}
+use Rattle.verdicts.specs.Decisions.{OpensFor, Decides, CallDecides, issuedCode}
+
+-- a verdict by its three numbers
+opens-for : (v : Verdict) (c r : ℕ) → verdictNumber v ≡ 0 → verdictContractor v ≡ c → verdictRight v ≡ r → OpensFor v c r
+opens-for (Opens g) c r n ec er = record { grant = g; is = refl; names-contractor = ec; names-right = er }
+opens-for (Refused x) c r n ec er = let z : ⊥ = omega (arith, reason-positive x, n) in absurd z
+
+module _ (key : List ℕ) (hk : AreBytes key) (rounds : ℕ) (grant : List ℕ) (hg : AreBytes grant) (block : ℕ) (few : block < 4294967296) (right : ℕ) where
+  pub decided : (roll : Roll) (v : Verdict) → (verdictNumber v ≡ checkNumber key rounds roll grant block right)
+      × ((verdictContractor v ≡ checkContractor key rounds roll grant block right) × (verdictRight v ≡ checkRight key rounds roll grant block right))
+      → Decides key rounds roll grant block right v
+  unfolding OpensExactlyWhen
+  decided roll v e =
+      let w = opens-exactly-when key hk rounds roll grant hg block few right in
+      record {
+        opens-if = λ o. let a = w .1 o in opens-for v _ right (e .0 ∙ a .number) (e .1 .0 ∙ a .answers-contractor) (e .1 .1 ∙ a .answers-right);
+        opens-only-if = λ g o. w .0 (sym (e .0) ∙ ap verdictNumber o);
+      }
+
+  pub call-decided : (roll : List ℕ) (code : ℕ) → code ≡ callCode key rounds roll grant block right → CallDecides key rounds roll grant block right code
+  unfolding CallOpensExactlyWhen CallNeverZero
+  call-decided roll code e =
+      let w = call-opens-exactly-when key hk rounds roll grant hg block few right in
+      record {
+        opens-if = λ l o. e ∙ w .1 l o;
+        opens-only-if = λ h. w .0 (omega (arith, h, e));
+        never-zero = omega (arith, e, call-never-zero key rounds roll grant block right);
+      }
+
+-- ---- what was issued
+module _ (key : List ℕ) (rounds : ℕ) (roll : Roll) (contractor block right : ℕ) (out : List ℕ) where
+  -- an output that was written starts with the grant
+  module _ (e : issueNumber key rounds roll contractor right out ≡ 0) (w : List ℕ)
+      (ew : w ≡ issueOutput key rounds roll contractor block right out) where
+    begins : (12 ≤ length w) × (take 12 w ≡ issuedGrant key rounds roll contractor block right)
+    unfolding issueOutput issuedGrant cipherBlock
+    begins =
+        let s = starts (issueNumber key rounds roll contractor right out) (issuedGrant key rounds roll contractor block right) out e in
+        (subst⁻¹ (λ (w : List ℕ). 12 ≤ length w) ew (s .0), ap (take 12) ew ∙ s .1)
+
+    pub room : 12 ≤ length w
+    room = begins .0
+
+    pub twelve-taken : 12 ≡ length (take 12 w)
+    twelve-taken = sym (length-take-le 12 w room)
+
+    pub first-twelve : take 12 w ≡ issuedGrant key rounds roll contractor block right
+    first-twelve = begins .1
+
+  -- a verdict by its numbers: the issue's refusal, or the contractor and the right of the grant
+  abbrev pub Answers : Verdict → Type 0
+  Answers v = (verdictNumber v ≡ issueNumber key rounds roll contractor right out)
+      × ((verdictContractor v ≡ answered (issueNumber key rounds roll contractor right out) contractor 0)
+      × (verdictRight v ≡ answered (issueNumber key rounds roll contractor right out) right 0))
+
+  -- where the issue refused
+  pub refused-first : (r : Reason) → reasonNumber r ≡ issueNumber key rounds roll contractor right out → Answers (Refused r)
+  refused-first r e =
+      let ts = issueTries key rounds roll contractor right out in
+      let p : 0 < reasonNumber r = reason-positive r in
+      (e, (answer-refused ts (reasonNumber r) contractor 0 p (sym e), answer-refused ts (reasonNumber r) right 0 p (sym e)))
+
+  -- where it did not, and the check was asked
+  pub opened : AreBytes key → block < 4294967296 → issueNumber key rounds roll contractor right out ≡ 0
+      → (w : List ℕ) → w ≡ issueOutput key rounds roll contractor block right out
+      → (v : Verdict) → (verdictNumber v ≡ checkNumber key rounds roll (take 12 w) block right)
+      × ((verdictContractor v ≡ checkContractor key rounds roll (take 12 w) block right)
+      × (verdictRight v ≡ checkRight key rounds roll (take 12 w) block right)) → Answers v
+  unfolding IssuedOpens
+  opened hk few e w ew v h =
+      let ts = issueTries key rounds roll contractor right out in
+      let a = issued-opens key rounds roll contractor block right out record { key-bytes = hk; block-small = few; number = e } .opens in
+      let eg = first-twelve e w ew in (
+        h .0 ∙ ap (λ (g : List ℕ). checkNumber key rounds roll g block right) eg ∙ a .number ∙ sym e,
+        (
+          h .1 .0 ∙ ap (λ (g : List ℕ). checkContractor key rounds roll g block right) eg ∙ a .answers-contractor ∙ answer-done ts contractor 0 e,
+          h .1 .1 ∙ ap (λ (g : List ℕ). checkRight key rounds roll g block right) eg ∙ a .answers-right ∙ answer-done ts right 0 e,
+        ),
+      )
+
+-- ---- the same of the C calls
+module _ (key : List ℕ) (rounds : ℕ) (roll : List ℕ) (contractor block right : ℕ) (out : List ℕ) where
+  pub call-refused-first : (n : ℕ) → n ≡ issueCallNumber key rounds roll contractor right out → (n ≡ 0 → ⊥) → n ≡ issuedCode key rounds roll contractor right out
+  unfolding issuedCode
+  call-refused-first n e d =
+      let ts = issueCallTries key rounds roll contractor right out in
+      e ∙ answer-refused ts n (1000 * right + contractor) (issueCallNumber key rounds roll contractor right out) (omega (arith, d)) (sym e)
+
+  module _ (e : issueCallNumber key rounds roll contractor right out ≡ 0) (w : List ℕ)
+      (ew : w ≡ issueCallOutput key rounds roll contractor block right out) where
+    pub call-room : 12 ≤ length w
+    unfolding issueCallOutput issuedGrant cipherBlock
+    call-room =
+        let g = issuedGrant key rounds (rollOf roll) contractor block right in
+        subst⁻¹ (λ (w : List ℕ). 12 ≤ length w) ew (starts (issueCallNumber key rounds roll contractor right out) g out e .0)
+
+    pub call-twelve-taken : 12 ≡ length (take 12 w)
+    call-twelve-taken = sym (length-take-le 12 w call-room)
+
+    pub call-opened : AreBytes key → AreBytes roll → block < 4294967296
+        → (code : ℕ) → code ≡ callCode key rounds roll (take 12 w) block right → code ≡ issuedCode key rounds roll contractor right out
+    unfolding CallIssuedOpens issuedCode
+    call-opened hk hr few code ec =
+        let i : CallIssued key rounds roll contractor block right out = record { key-bytes = hk; roll-bytes = hr; block-small = few; number = e } in
+        ec ∙ ap (λ (w : List ℕ). callCode key rounds roll (take 12 w) block right) ew
+        ∙ call-issued-opens key rounds roll contractor block right out i
+        ∙ answer-done (issueCallTries key rounds roll contractor right out) (1000 * right + contractor)
+        (issueCallNumber key rounds roll contractor right out) e
