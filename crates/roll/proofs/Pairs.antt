@@ -7,7 +7,7 @@ use native.Mathlib.Numerals.{add-one}
 use lib.Dec.{lit<}
 use lib.ListN.{length, getD, take, drop, set, replicate, length-append, drop-of-length-le}
 use lib.Seq.{take-suc, length-take-le, set-at, take-all, drop-cons}
-use Rattle.roll.specs.Roll.{countsOf, countsBytes}
+use Rattle.roll.specs.Roll.{countFrom, byteOne, byteTwo, countsOf, countsBytes}
 
 pub length-counts : (bs : List ℕ) (n : ℕ) → length bs ≡ 2 * n → length (countsOf bs) ≡ n
 unfolding countsOf
@@ -18,13 +18,13 @@ length-counts (a ∷ []) (suc n) e = let z : ⊥ = omega (arith, e) in absurd z
 length-counts (a ∷ b ∷ bs) zero e = let z : ⊥ = omega (arith, e) in absurd z
 length-counts (a ∷ b ∷ bs) (suc n) e = ap suc (length-counts bs n (omega (arith, e)))
 
-counts-more : (bs : List ℕ) (n x y : ℕ) → length bs ≡ 2 * n → countsOf (bs ++ (x ∷ y ∷ [])) ≡ countsOf bs ++ ((256 * x + y) ∷ [])
+counts-more : (bs : List ℕ) (n x y : ℕ) → length bs ≡ 2 * n → countsOf (bs ++ (x ∷ y ∷ [])) ≡ countsOf bs ++ (countFrom x y ∷ [])
 unfolding countsOf
 counts-more [] n x y e = refl
 counts-more (a ∷ []) zero x y e = let z : ⊥ = omega (arith, e) in absurd z
 counts-more (a ∷ []) (suc n) x y e = let z : ⊥ = omega (arith, e) in absurd z
 counts-more (a ∷ b ∷ bs) zero x y e = let z : ⊥ = omega (arith, e) in absurd z
-counts-more (a ∷ b ∷ bs) (suc n) x y e = ap {B = List ℕ} (λ l. (256 * a + b) ∷ l) (counts-more bs n x y (omega (arith, e)))
+counts-more (a ∷ b ∷ bs) (suc n) x y e = ap {B = List ℕ} (λ l. countFrom a b ∷ l) (counts-more bs n x y (omega (arith, e)))
 
 -- counts of bytes are 16-bit numbers
 pub counts-small : (bs : List ℕ) → ((i : ℕ) → getD bs i 0 < 256) → (i : ℕ) → getD (countsOf bs) i 0 < 65536
@@ -39,7 +39,7 @@ unfoldable pub counts-to : List ℕ → ℕ → List ℕ
 counts-to bytes i = countsOf (take (2 * i) bytes) ++ replicate (200 - i) 0
 
 module _ (bytes : List ℕ) (all : length bytes ≡ 400) where
-  pub counts-next : (i : ℕ) → i < 200 → (out : List ℕ) (v : ℕ) → out ≡ counts-to bytes i → v ≡ 256 * getD bytes (2 * i) 0 + getD bytes (2 * i + 1) 0
+  pub counts-next : (i : ℕ) → i < 200 → (out : List ℕ) (v : ℕ) → out ≡ counts-to bytes i → v ≡ countFrom (getD bytes (2 * i) 0) (getD bytes (2 * i + 1) 0)
       → set out i v ≡ counts-to bytes (i + 1)
   unfolding counts-to
   counts-next i h out v eo ev =
@@ -55,8 +55,8 @@ module _ (bytes : List ℕ) (all : length bytes ≡ 400) where
       ∙ ap₂ (λ (l : List ℕ) (b : ℕ). l ++ (b ∷ [])) (take-suc bytes (2 * i) 0 (omega arith)) (ap (λ (p : ℕ). getD bytes p 0) k)
       ∙ append-assoc t (x ∷ []) (y ∷ []) in
       ap₂ (λ (l : List ℕ) (w : ℕ). set l i w) (eo ∙ ap (λ (p : ℕ). countsOf t ++ replicate p 0) n) ev
-      ∙ set-at (countsOf t) 0 (replicate (200 - (i + 1)) 0) (256 * x + y) i (length-counts t i lt)
-      ∙ sym (append-assoc (countsOf t) ((256 * x + y) ∷ []) (replicate (200 - (i + 1)) 0))
+      ∙ set-at (countsOf t) 0 (replicate (200 - (i + 1)) 0) (countFrom x y) i (length-counts t i lt)
+      ∙ sym (append-assoc (countsOf t) (countFrom x y ∷ []) (replicate (200 - (i + 1)) 0))
       ∙ ap (λ (l : List ℕ). l ++ replicate (200 - (i + 1)) 0) (sym (ap countsOf more ∙ counts-more t i x y lt))
 
   pub counts-all : counts-to bytes 200 ≡ countsOf bytes
@@ -76,10 +76,10 @@ bytes-small (n ∷ ns) zero = omega arith
 bytes-small (n ∷ ns) (suc zero) = omega arith
 bytes-small (n ∷ ns) (suc (suc i)) = bytes-small ns i
 
-bytes-more : (ns : List ℕ) (n : ℕ) → countsBytes (ns ++ (n ∷ [])) ≡ countsBytes ns ++ (n / 256 % 256 ∷ n % 256 ∷ [])
+bytes-more : (ns : List ℕ) (n : ℕ) → countsBytes (ns ++ (n ∷ [])) ≡ countsBytes ns ++ (byteOne n ∷ byteTwo n ∷ [])
 unfolding countsBytes
 bytes-more [] n = refl
-bytes-more (x ∷ ns) n = ap {B = List ℕ} (λ l. x / 256 % 256 ∷ x % 256 ∷ l) (bytes-more ns n)
+bytes-more (x ∷ ns) n = ap {B = List ℕ} (λ l. byteOne x ∷ byteTwo x ∷ l) (bytes-more ns n)
 
 -- the first i counts written, and what stood after them
 unfoldable pub bytes-to : List ℕ → ℕ → List ℕ → List ℕ
@@ -87,7 +87,7 @@ bytes-to counts i out = countsBytes (take i counts) ++ drop (2 * i) out
 
 module _ (counts out₀ : List ℕ) (all : length counts ≡ 200) (room : length out₀ ≡ 400) where
   pub bytes-next : (i : ℕ) → i < 200 → (out : List ℕ) → out ≡ bytes-to counts i out₀
-      → set (set out (2 * i) (getD counts i 0 / 256 % 256)) (2 * i + 1) (getD counts i 0 % 256) ≡ bytes-to counts (i + 1) out₀
+      → set (set out (2 * i) (byteOne (getD counts i 0))) (2 * i + 1) (byteTwo (getD counts i 0)) ≡ bytes-to counts (i + 1) out₀
   unfolding bytes-to
   bytes-next i h out e =
       let p = countsBytes (take i counts) in
@@ -97,13 +97,13 @@ module _ (counts out₀ : List ℕ) (all : length counts ≡ 200) (room : length
       let y = getD out₀ (suc (2 * i)) 0 in
       let lp : length p ≡ 2 * i = length-bytes (take i counts) ∙ ap (λ (m : ℕ). 2 * m) (length-take-le i counts (omega arith)) in
       let m : suc (suc (2 * i)) ≡ 2 * (i + 1) = omega arith in
-      let lq : length (p ++ (n / 256 % 256 ∷ [])) ≡ 2 * i + 1 = length-append p (n / 256 % 256 ∷ []) ∙ omega (arith, lp) in
-      ap (λ (l : List ℕ). set (set l (2 * i) (n / 256 % 256)) (2 * i + 1) (n % 256))
+      let lq : length (p ++ (byteOne n ∷ [])) ≡ 2 * i + 1 = length-append p (byteOne n ∷ []) ∙ omega (arith, lp) in
+      ap (λ (l : List ℕ). set (set l (2 * i) (byteOne n)) (2 * i + 1) (byteTwo n))
       (e ∙ ap (λ (l : List ℕ). p ++ l) (drop-cons out₀ (2 * i) 0 (omega arith) ∙ ap (λ (l : List ℕ). x ∷ l) (drop-cons out₀ (suc (2 * i)) 0 (omega arith))))
-      ∙ ap (λ (l : List ℕ). set l (2 * i + 1) (n % 256)) (set-at p x (y ∷ r) (n / 256 % 256) (2 * i) lp ∙ sym (append-assoc p (n / 256 % 256 ∷ []) (y ∷ r)))
-      ∙ set-at (p ++ (n / 256 % 256 ∷ [])) y r (n % 256) (2 * i + 1) lq
-      ∙ append-assoc p (n / 256 % 256 ∷ []) (n % 256 ∷ r)
-      ∙ sym (append-assoc p (n / 256 % 256 ∷ n % 256 ∷ []) r)
+      ∙ ap (λ (l : List ℕ). set l (2 * i + 1) (byteTwo n)) (set-at p x (y ∷ r) (byteOne n) (2 * i) lp ∙ sym (append-assoc p (byteOne n ∷ []) (y ∷ r)))
+      ∙ set-at (p ++ (byteOne n ∷ [])) y r (byteTwo n) (2 * i + 1) lq
+      ∙ append-assoc p (byteOne n ∷ []) (byteTwo n ∷ r)
+      ∙ sym (append-assoc p (byteOne n ∷ byteTwo n ∷ []) r)
       ∙ ap₂ _++_ (sym (ap (λ (k : ℕ). countsBytes (take k counts)) (add-one i) ∙ ap countsBytes (take-suc counts i 0 (omega arith)) ∙ bytes-more (take i counts) n)) (ap (λ (k : ℕ). drop k out₀) m)
 
   pub bytes-all : bytes-to counts 200 out₀ ≡ countsBytes counts

@@ -53,10 +53,20 @@ unfoldable pub withdrawnRoll : Roll → ℕ → Roll
 withdrawnRoll roll c = answered (withdrawNumber roll c) (counted roll c) roll
 
 -- ---- a roll in bytes: the counts of contractors 1 to 200, big end first
+-- a count from its two bytes, and the two bytes of a count
+abbrev pub countFrom : ℕ → ℕ → ℕ
+countFrom a b = 256 * a + b
+
+abbrev pub byteOne : ℕ → ℕ
+byteOne n = n / 256 % 256
+
+abbrev pub byteTwo : ℕ → ℕ
+byteTwo n = n % 256
+
 unfoldable pub countsOf : List ℕ → List ℕ
 countsOf [] = []
 countsOf (a ∷ []) = []
-countsOf (a ∷ b ∷ bs) = (256 * a + b) ∷ countsOf bs
+countsOf (a ∷ b ∷ bs) = countFrom a b ∷ countsOf bs
 
 unfoldable pub rollOf : List ℕ → Roll
 rollOf bytes = record { counts = countsOf bytes }
@@ -64,7 +74,7 @@ rollOf bytes = record { counts = countsOf bytes }
 -- and back: two bytes for each count
 unfoldable pub countsBytes : List ℕ → List ℕ
 countsBytes [] = []
-countsBytes (n ∷ ns) = n / 256 % 256 ∷ n % 256 ∷ countsBytes ns
+countsBytes (n ∷ ns) = byteOne n ∷ byteTwo n ∷ countsBytes ns
 
 unfoldable pub rollBytes : Roll → List ℕ
 rollBytes roll = countsBytes (roll .counts)

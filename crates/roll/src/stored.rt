@@ -1,16 +1,15 @@
 // A roll as hosts keep and lend it: 400 bytes, two for each contractor, big end first.
 
 ghost use mathlib.Core.Path.{_≡_};
-ghost use Prim.Native.Nat.{_+_, _*_};
 ghost use lib.ListN.{length};
-ghost use Rattle.roll.specs.Roll.{rollOf, rollBytes};
+ghost use Rattle.roll.specs.Roll.{countFrom, rollOf, rollBytes};
 use crate::Roll;
 
 // A count from its two bytes.
-fn count_from(high: u8, low: u8) -> u16
-    ensures { λ r. ⌜ r ≡ 256 * high + low ⌝ }
+fn count_from(first: u8, second: u8) -> u16
+    ensures { λ r. ⌜ r ≡ countFrom first second ⌝ }
 {
-    256 * (high as u16) + low as u16
+    256 * (first as u16) + second as u16
 }
 
 pub fn roll_from(bytes: &[u8]) -> Roll

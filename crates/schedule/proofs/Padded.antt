@@ -8,9 +8,9 @@ use lib.Seq.{getD-take, drop-at, length-front, length-take-le}
 use lib.Dec.{lit<}
 use lib.Bits.{bitXor}
 use Rattle.field.specs.Field.{_⊕_, cubeRoot}
-use Rattle.sbox.specs.Sbox.{sbox}
+use Rattle.layers.specs.State.{column}
 use Rattle.schedule.specs.Columns.{cell, IsStage, filled, plus, padded, columnRule}
-use Rattle.schedule.specs.Stages.{next, previous, byRow, moved, linearStep, subkeyOf}
+use Rattle.schedule.specs.Stages.{next, previous, byRow, moved, linearStep, subkeyByte, subkeyOf}
 use Rattle.schedule.proofs.Columns.{fill-path, length-columns}
 use Rattle.schedule.proofs.Steps.{in-range, wrap}
 
@@ -101,4 +101,4 @@ pub subkey-agrees : (n : ℕ) (a b : List ℕ) → 4 ≤ n → Agree n a b → s
 subkey-agrees n a b h p k = col 0 (omega arith) ∷ col 1 (omega arith) ∷ col 2 (omega arith) ∷ col 3 (omega arith) ∷ []
   where
     col : (j : ℕ) → j < n → List ℕ
-    col j l = sbox (p 0 j (lit< tt) l k) ∷ p 1 j (lit< tt) l k ∷ p 2 j (lit< tt) l k ∷ []
+    col j l = column (λ i. subkeyByte i (p 0 j (lit< tt) l k) (p 1 j (lit< tt) l k) (p 2 j (lit< tt) l k))

@@ -4,7 +4,7 @@ use Prim.Native.Nat.{ℕ, zero, suc, _+_, _-_, _*_, _%_, _≤_, _<_}
 use native.Mathlib.Nat.{mod-self, mod-eq-of-lt, add-mod-right}
 use native.Mathlib.Omega.{arith}
 use Rattle.sizes.specs.Sizes.{Sized}
-use Rattle.schedule.specs.Stages.{next, previous}
+use Rattle.schedule.specs.Stages.{next, previous, entryOf}
 
 pub next-on : (n j : ℕ) → j + 1 < n → j + 1 ≡ next n j
 next-on n j h = sym (mod-eq-of-lt h)
@@ -40,6 +40,6 @@ sizes P a b c (suc (suc (suc (suc zero)))) h = c
 sizes P a b c (suc (suc (suc (suc (suc t))))) h = let z : ⊥ = omega (arith, h .most) in absurd z
 
 -- the entries of constant s below 6t stand in the first 192 places of the S-box
-pub entry-place : (t : ℕ) → Sized t → (s j : ℕ) → s < 6 * t → j < 2 * t → 2 * t * (s - 1) + j < 256
-entry-place = sizes (λ (t : ℕ). (s j : ℕ) → s < 6 * t → j < 2 * t → 2 * t * (s - 1) + j < 256)
+pub entry-place : (t : ℕ) → Sized t → (s j : ℕ) → s < 6 * t → j < 2 * t → entryOf t s j < 256
+entry-place = sizes (λ (t : ℕ). (s j : ℕ) → s < 6 * t → j < 2 * t → entryOf t s j < 256)
     (λ s j hs hj. omega arith) (λ s j hs hj. omega arith) (λ s j hs hj. omega arith)

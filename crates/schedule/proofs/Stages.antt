@@ -9,7 +9,7 @@ use lib.Bits.{bitXor}
 use Rattle.field.specs.Field.{_⊕_}
 use Rattle.schedule.specs.Columns.{cell, fill, IsStage, filled, plus}
 use Rattle.schedule.proofs.Columns.{fill-path, cell-fill}
-use Rattle.schedule.specs.Stages.{byRow, constant, stage, zeros, closingSum}
+use Rattle.schedule.specs.Stages.{byRow, entryOf, constant, stage, zeros, closingSum}
 use Rattle.schedule.proofs.Steps.{step-stage, plus-stage}
 
 row-small : (i a : ℕ) → a < 256 → byRow i a 0 0 < 256
@@ -19,13 +19,13 @@ row-small (suc (suc i)) a h = lit< tt
 
 pub constant-stage : (t s : ℕ) → IsStage (2 * t) (constant t s)
 unfolding constant
-constant-stage t s = filled (λ i j. byRow i (sbox (2 * t * (s - 1) + j)) 0 0) (λ i j. row-small i (sbox (2 * t * (s - 1) + j)) (sbox-small (2 * t * (s - 1) + j)))
+constant-stage t s = filled (λ i j. byRow i (sbox (entryOf t s j)) 0 0) (λ i j. row-small i (sbox (entryOf t s j)) (sbox-small (entryOf t s j)))
 
 -- the sum of a stage and a constant, cell by cell
-pub plus-constant : (t s : ℕ) (k : List ℕ) → fill (2 * t) (λ i j. cell k i j ⊕ byRow i (sbox (2 * t * (s - 1) + j)) 0 0) ≡ plus (2 * t) k (constant t s)
+pub plus-constant : (t s : ℕ) (k : List ℕ) → fill (2 * t) (λ i j. cell k i j ⊕ byRow i (sbox (entryOf t s j)) 0 0) ≡ plus (2 * t) k (constant t s)
 unfolding plus constant
 plus-constant t s k =
-    let f : ℕ → ℕ → ℕ = λ i j. byRow i (sbox (2 * t * (s - 1) + j)) 0 0 in
+    let f : ℕ → ℕ → ℕ = λ i j. byRow i (sbox (entryOf t s j)) 0 0 in
     fill-path (2 * t) (λ i j. cell k i j ⊕ f i j) (λ i j. cell k i j ⊕ cell (fill (2 * t) f) i j)
     (λ i j hi hj. ap (bitXor (cell k i j)) (sym (cell-fill (2 * t) f i j hi hj)))
 

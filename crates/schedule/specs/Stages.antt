@@ -39,10 +39,13 @@ linearStep n k = columnRule cubeRoot n (rotated n k)
 unfoldable pub inverseStep : ℕ → List ℕ → List ℕ
 inverseStep n k = unrotated n (columnRule (cubeRoot ⊕ 1) n k)
 
--- constant s, for s from 1 to 6t - 1: S[2t(s - 1) + j] in row 0, column j, and zero elsewhere. The paper says that t S-box entries
--- are used for each; its formula has 2t
+-- which entry of the S-box constant s has in column j. The paper says that t entries are used for each constant; its formula has 2t
+abbrev pub entryOf : ℕ → ℕ → ℕ → ℕ
+entryOf t s j = 2 * t * (s - 1) + j
+
+-- constant s, for s from 1 to 6t - 1: S[2t(s - 1) + j] in row 0, column j, and zero elsewhere
 unfoldable pub constant : ℕ → ℕ → List ℕ
-constant t s = fill (2 * t) (λ i j. byRow i (sbox (2 * t * (s - 1) + j)) 0 0)
+constant t s = fill (2 * t) (λ i j. byRow i (sbox (entryOf t s j)) 0 0)
 
 -- stage 0 is the key; stage s is the linear step of (stage s - 1 plus constant s)
 unfoldable pub stage : ℕ → List ℕ → ℕ → List ℕ
@@ -57,6 +60,10 @@ zeros n = fill n (λ i j. 0)
 unfoldable pub closingSum : ℕ → List ℕ
 closingSum t = stage t (zeros (2 * t)) (6 * t - 1)
 
--- a subkey: the first four columns of a stage, with the S-box on row 0 only
+-- row i of a subkey's column, where the stage has the column x y z: the S-box on row 0 only
+abbrev pub subkeyByte : ℕ → ℕ → ℕ → ℕ → ℕ
+subkeyByte i x y z = byRow i (sbox x) y z
+
+-- a subkey: the first four columns of a stage
 abbrev pub subkeyOf : List ℕ → State
-subkeyOf k = build (λ i j. byRow i (sbox (cell k 0 j)) (cell k 1 j) (cell k 2 j))
+subkeyOf k = build (λ i j. subkeyByte i (cell k 0 j) (cell k 1 j) (cell k 2 j))

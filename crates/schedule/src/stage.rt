@@ -7,8 +7,10 @@ ghost use mathlib.Core.List.{_++_};
 ghost use Prim.Native.Nat.{_+_, _*_, _≤_, _<_};
 ghost use lib.Dec.{ltb};
 ghost use lib.ListN.{length, drop};
+ghost use Rattle.sbox.specs.Sbox.{tableP, tableQ};
+ghost use Rattle.layers.specs.State.{column};
 ghost use Rattle.schedule.specs.Columns.{cell, plus, padded};
-ghost use Rattle.schedule.specs.Stages.{linearStep, constant, subkeyOf};
+ghost use Rattle.schedule.specs.Stages.{linearStep, constant, subkeyByte, subkeyOf};
 ghost use Rattle.sizes.specs.Sizes.{Sized};
 use crate::column::column_term;
 
@@ -71,17 +73,28 @@ pub fn next_stage(t: usize, s: usize, k: &mut [u8; 24])
     linear_step(t, k);
 }
 
-// A stage's subkey: its first four columns, with the S-box on row 0.
+// Column j of a subkey: the stage's, with the S-box on row 0.
+fn subkey_column(p: &[u8; 16], q: &[u8; 16], k: &[u8; 24], j: usize) -> [u8; 3]
+    requires { ⌜ (now p ≡ tableP) × ((now q ≡ tableQ) × (j < 4)) ⌝ }
+    ensures { λ r. ⌜ r ≡ column (λ i. subkeyByte i (cell (now (k .entry)) 0 j) (cell (now (k .entry)) 1 j) (cell (now (k .entry)) 2 j)) ⌝ }
+{
+    let x = k[0 + 3 * j];
+    let y = k[1 + 3 * j];
+    let z = k[2 + 3 * j];
+    [sbox::substitute_with(p, q, x), y, z]
+}
+
+// A stage's subkey: its first four columns. The mini-boxes are laid in memory once for all four.
 pub fn subkey(k: &[u8; 24]) -> [[u8; 3]; 4]
     ensures { λ r. ⌜ r ≡ subkeyOf (now (k .entry)) ⌝ }
 {
     let p = sbox::P;
     let q = sbox::Q;
     [
-        [sbox::substitute_with(&p, &q, k[0]), k[1], k[2]],
-        [sbox::substitute_with(&p, &q, k[3]), k[4], k[5]],
-        [sbox::substitute_with(&p, &q, k[6]), k[7], k[8]],
-        [sbox::substitute_with(&p, &q, k[9]), k[10], k[11]],
+        subkey_column(&p, &q, k, 0),
+        subkey_column(&p, &q, k, 1),
+        subkey_column(&p, &q, k, 2),
+        subkey_column(&p, &q, k, 3),
     ]
 }
 

@@ -10,7 +10,7 @@ use Rattle.field.specs.Field.{_⊕_}
 use Rattle.field.proofs.Addition.{zero-right}
 use Rattle.sbox.specs.Sbox.{tableP, tableQ, sbox}
 use Rattle.schedule.specs.Columns.{cell, columns}
-use Rattle.schedule.specs.Stages.{byRow}
+use Rattle.schedule.specs.Stages.{byRow, entryOf}
 use Rattle.schedule.proofs.Places.{entry-place}
 use Rattle.schedule.proofs.Stages.{plus-constant}
 use Rattle.schedule.proofs.Written.{upto, unwritten, row-put}
@@ -21,7 +21,7 @@ use Rattle.schedule.proofs.stage.add_constant.Tie as tie
 abbrev Inv-loop : tie.InvT-loop
 Inv-loop t s k₀ n first p q j₀ k j =
     ((n ≡ 2 * t) × ((first ≡ n * (s - 1)) × ((p ≡ tableP) × (q ≡ tableQ))))
-    × ((j ≤ n) × (k ≡ upto (λ i j. cell k₀ i j ⊕ byRow i (sbox (2 * t * (s - 1) + j)) 0 0) j k₀))
+    × ((j ≤ n) × (k ≡ upto (λ i j. cell k₀ i j ⊕ byRow i (sbox (entryOf t s j)) 0 0) j k₀))
 
 abbrev μ-loop : tie.MeasureT-loop
 μ-loop t s k₀ n first p q j₀ k j = n - j
@@ -76,7 +76,7 @@ loop-again c =
     let s = p .args .s in
     let k = now (p .args .k) in
     let j = l .j in
-    let f : ℕ → ℕ → ℕ = λ i j. cell k i j ⊕ byRow i (sbox (2 * t * (s - 1) + j)) 0 0 in (
+    let f : ℕ → ℕ → ℕ = λ i j. cell k i j ⊕ byRow i (sbox (entryOf t s j)) 0 0 in (
       l .inv .0,
       (
         search needs,
@@ -93,7 +93,7 @@ returns c =
     let a = c .before .before .args in
     let k = now (a .k) in
     let l = c .before .loop in
-    let f : ℕ → ℕ → ℕ = λ i j. cell k i j ⊕ byRow i (sbox (2 * a .t * (a .s - 1) + j)) 0 0 in
+    let f : ℕ → ℕ → ℕ = λ i j. cell k i j ⊕ byRow i (sbox (entryOf (a .t) (a .s) j)) 0 0 in
     let e : l .j ≡ 2 * a .t = omega arith in
     let e′ : 3 * (2 * a .t) ≡ 6 * a .t = omega arith in
     l .inv .1 .1 ∙ ap (λ (j : ℕ). upto f j k) e ∙ ap₂ _++_ (plus-constant (a .t) (a .s) k) (ap (λ (m : ℕ). drop m k) e′)
