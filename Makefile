@@ -23,7 +23,10 @@ test:
 	tools/setup
 	$(MAKE) --no-print-directory reference
 	tools/vectors check
+	tools/known-answers
 	tools/check-docs
+	tools/check-docs --shams
+	tools/check-edits
 	rt fmt --check
 	tools/gate
 

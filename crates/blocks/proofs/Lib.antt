@@ -1,5 +1,5 @@
 pub mod Put
 pub mod Lists
 pub mod RoundTrip
-pub mod Claims
+pub mod Lemmas
 pub mod KnownAnswers

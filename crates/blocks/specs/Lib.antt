@@ -1,3 +1,3 @@
 pub mod Blocks
-pub mod Claims
+pub mod Lemmas
 pub mod KnownAnswers

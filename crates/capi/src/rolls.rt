@@ -14,13 +14,13 @@ pub extern "C" fn gordzila_enter(roll: &mut [u8], contractor: u32) -> u32
     if roll.len() != 400 {
         return refusal::reason_number(Reason::InputLength);
     }
-    let changed = roll::enter(roll::roll_from(roll), contractor);
-    let outcome = changed.outcome;
-    let number = refusal::outcome_number(outcome);
-    if number != 0 {
-        return number;
+    let entered = roll::enter(roll::roll_from(roll), contractor);
+    let outcome = entered.outcome;
+    let refused = refusal::outcome_number(outcome);
+    if refused != 0 {
+        return refused;
     }
-    let after = changed.roll;
+    let after = entered.roll;
     roll::write_roll(roll, after);
     0
 }
@@ -34,13 +34,13 @@ pub extern "C" fn gordzila_withdraw(roll: &mut [u8], contractor: u32) -> u32
     if roll.len() != 400 {
         return refusal::reason_number(Reason::InputLength);
     }
-    let changed = roll::withdraw(roll::roll_from(roll), contractor);
-    let outcome = changed.outcome;
+    let withdrawn = roll::withdraw(roll::roll_from(roll), contractor);
+    let outcome = withdrawn.outcome;
     let number = refusal::outcome_number(outcome);
     if number != 0 {
         return number;
     }
-    let after = changed.roll;
+    let after = withdrawn.roll;
     roll::write_roll(roll, after);
     0
 }

@@ -33,9 +33,9 @@ pub extern "C" fn gordzila_subkey(key: &[u8], n: u32, out: &mut [u8]) -> u32
 {
     let given = holder::straight(key, n as usize);
     let outcome = given.outcome;
-    let number = refusal::outcome_number(outcome);
-    if number != 0 {
-        return number;
+    let refused = refusal::outcome_number(outcome);
+    if refused != 0 {
+        return refused;
     }
     if out.len() < 12 {
         return refusal::reason_number(Reason::OutputTooShort);

@@ -4,27 +4,10 @@ use Prim.Native.Nat.{ℕ, zero, suc, _+_, _*_, _/_, _%_, _^_, _<_}
 use native.Mathlib.Nat.{mul-assoc, mul-comm, zero-mul}
 use lib.Bits.{bitXor}
 use Rattle.field.specs.Field.{_⊕_, coefficient, product, modulus, reduced, times}
-use Rattle.field.specs.Claims.{AdditionLaws, MultiplicationLaws, TimesIsRemainder, CubeRootLaws}
-use Rattle.field.proofs.Addition.{digit-cases, bit, assoc, comm, left-comm, self, zero-right, byte, shifted}
-use Rattle.field.proofs.Linear.{product-right, times-left, times-right}
-use Rattle.field.proofs.Multiplication.{times-comm, times-assoc, one-times, times-byte}
-
-pub addition-laws : AdditionLaws
-addition-laws = record { associative = assoc; commutative = comm; zero-neutral = zero-right; self-inverse = self; stays-a-byte = byte }
-
-pub multiplication-laws : MultiplicationLaws
-multiplication-laws = record {
-  distributes-right = times-right;
-  distributes-left = times-left;
-  commutative = times-comm;
-  associative = times-assoc;
-  one-neutral = one-times;
-  stays-a-byte = times-byte;
-}
-
-pub cube-root-laws : CubeRootLaws
-unfolding times product reduced
-cube-root-laws = record { square = refl; inverse = refl }
+use Rattle.field.specs.Claims.{TimesIsRemainder}
+use Rattle.field.proofs.Addition.{digit-cases, bit, assoc, comm, left-comm, self, zero-right, shifted}
+use Rattle.field.proofs.Linear.{product-right}
+use Rattle.field.proofs.Multiplication.{times-byte}
 
 -- ---- the remainder
 

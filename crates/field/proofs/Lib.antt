@@ -3,4 +3,5 @@ pub mod Addition
 pub mod Linear
 pub mod Multiplication
 pub mod Claims
+pub mod Lemmas
 pub mod Constants

@@ -1,2 +1,3 @@
 pub mod Field
 pub mod Claims
+pub mod Lemmas

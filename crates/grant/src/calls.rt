@@ -69,7 +69,8 @@ fn judge(p: &[u8; 12], roll: Roll, block: u32, right: u32) -> Verdict
     if block_in(p) != block {
         return Verdict::Refused(Reason::OtherBlock);
     }
-    if right_in(p) != right {
+    let granted = right_in(p);
+    if granted != right {
         return Verdict::Refused(Reason::OtherRight);
     }
     let contractor = contractor_in(p);
@@ -77,7 +78,9 @@ fn judge(p: &[u8; 12], roll: Roll, block: u32, right: u32) -> Verdict
     if !roll::is_in_standing(current) {
         return Verdict::Refused(Reason::NotInStanding);
     }
-    if count_in(p) != current as u32 {
+    let issued = count_in(p);
+    let on_roll = current as u32;
+    if issued != on_roll {
         return Verdict::Refused(Reason::OtherCount);
     }
     Verdict::Opens(Grant {

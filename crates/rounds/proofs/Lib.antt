@@ -1,3 +1,4 @@
 pub mod Turned
 pub mod Restored
 pub mod Claims
+pub mod Lemmas

@@ -14,15 +14,3 @@ RestoresBlock = (ks : List State) (a : State) → 2 ≤ length ks → AllStates 
 -- and the other way round: paper 000, Theorem 1, says that the one is the inverse of the other
 unfoldable pub RestoredByList : Type 0
 RestoredByList = (ks : List State) (a : State) → 2 ≤ length ks → AllStates ks → IsState a → enciphered ks (enciphered (turned ks) a) ≡ a
-
--- the turned list is as long as the list, and has states for states
-unfoldable pub TurnedGivesStates : Type 0
-TurnedGivesStates = (ks : List State) → AllStates ks → (length (turned ks) ≡ length ks) × AllStates (turned ks)
-
--- a list turned twice is the list
-unfoldable pub TurnedTwice : Type 0
-TurnedTwice = (ks : List State) → AllStates ks → turned (turned ks) ≡ ks
-
--- the rounds make a state of a state
-unfoldable pub RoundsGiveStates : Type 0
-RoundsGiveStates = (ks : List State) (a : State) → AllStates ks → IsState a → IsState (enciphered ks a)

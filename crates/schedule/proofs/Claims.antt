@@ -1,10 +1,8 @@
 -- A term of each type of specs/Claims.antt.
 use Rattle.field.specs.Field.{_⊕_, cubeRoot}
-use Rattle.schedule.specs.Claims.{ColumnRuleUndone, StepsUndo, StepKeepsSums, StagesAreStages, BytesAreStages}
-use Rattle.schedule.proofs.Columns.{as-stage}
+use Rattle.schedule.specs.Claims.{ColumnRuleUndone, StepsUndo}
 use Rattle.schedule.proofs.ColumnRule.{undoes-c, undoes-inverse, rule-undone}
-use Rattle.schedule.proofs.Steps.{inverse-step, step-inverse, step-plus}
-use Rattle.schedule.proofs.Stages.{stage-stage}
+use Rattle.schedule.proofs.Steps.{inverse-step, step-inverse}
 
 pub column-rule-undone : ColumnRuleUndone
 unfolding ColumnRuleUndone
@@ -13,15 +11,3 @@ column-rule-undone n k h = (rule-undone cubeRoot (cubeRoot ⊕ 1) n undoes-c h, 
 pub steps-undo : StepsUndo
 unfolding StepsUndo
 steps-undo n k h = (inverse-step n h, step-inverse n h)
-
-pub step-keeps-sums : StepKeepsSums
-unfolding StepKeepsSums
-step-keeps-sums n a b ha hb = step-plus n ha hb
-
-pub stages-are-stages : StagesAreStages
-unfolding StagesAreStages
-stages-are-stages t key h s = stage-stage t h s
-
-pub bytes-are-stages : BytesAreStages
-unfolding BytesAreStages
-bytes-are-stages = as-stage

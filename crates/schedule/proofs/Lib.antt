@@ -7,4 +7,5 @@ pub mod Padded
 pub mod Stages
 pub mod Keys
 pub mod Claims
+pub mod Lemmas
 pub mod KnownAnswers

@@ -1,4 +1,5 @@
 pub mod Columns
 pub mod Stages
 pub mod Claims
+pub mod Lemmas
 pub mod KnownAnswers

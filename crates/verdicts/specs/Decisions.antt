@@ -1,8 +1,10 @@
 -- Demand 2's "if, and only if" of an answer that a call gave, with no side condition: the contracts of this crate's functions, which make
 -- the call and nothing else, say it for every key, roll, grant and number that can be handed in.
+use mathlib.Core.Bool.{cond}
 use mathlib.Core.Path.{_≡_}
-use mathlib.Core.List.{List}
-use Prim.Native.Nat.{ℕ, _+_, _*_, _≤_}
+use mathlib.Core.List.{List, [], _∷_}
+use Prim.Native.Nat.{ℕ, _+_, _*_, _/_, _%_, _≤_}
+use lib.Dec.{eqb}
 use lib.ListN.{length}
 use Rattle.refusal.specs.Tries.{answered}
 use Rattle.roll.specs.declared.Roll.{Roll}
@@ -12,7 +14,10 @@ use Rattle.grant.specs.declared.Verdict.{Verdict}
 use Rattle.grant.specs.declared.Verdict.the-variants.{Opens}
 use Rattle.grant.specs.Grants.{rightNumber}
 use Rattle.revocation.specs.Claims.{Opening}
+use Rattle.histories.specs.Histories.{Change, enter, withdraw}
+use Rattle.capi.specs.Codes.{callCode}
 use Rattle.capi.specs.Hosts.{issueCallNumber}
+use Rattle.boxes.specs.Boxes.{bytesAfter, CallWithdrawn, grantGiven}
 
 -- a verdict that opens, with this contractor and this right
 pub record OpensFor (v : Verdict) (contractor right : ℕ) : Type 0 where
@@ -38,3 +43,29 @@ pub record CallDecides (key : List ℕ) (rounds : ℕ) (roll grant : List ℕ) (
 unfoldable pub issuedCode : List ℕ → ℕ → List ℕ → ℕ → ℕ → List ℕ → ℕ
 issuedCode key rounds roll contractor right out =
     answered (issueCallNumber key rounds roll contractor right out) (1000 * right + contractor) (issueCallNumber key rounds roll contractor right out)
+
+-- ---- a grant that is kept while the roll changes
+-- a number as a call on the roll: 2c enters contractor c, and 2c + 1 withdraws contractor c
+unfoldable pub changeFrom : ℕ → Change
+changeFrom n = cond (eqb (n % 2) 0) (enter (n / 2)) (withdraw (n / 2))
+
+unfoldable pub changesFrom : List ℕ → List Change
+changesFrom [] = []
+changesFrom (n ∷ ns) = changeFrom n ∷ changesFrom ns
+
+-- gordzila_issue answered 0, and among the calls made on the roll since then is a gordzila_withdraw of its contractor that answered 0: then the
+-- answer to whatever is asked of the grant is a refusal, a number from 1 to 999
+pub record Revoked (key : List ℕ) (rounds : ℕ) (roll : List ℕ) (contractor right : ℕ) (calls out : List ℕ) (code : ℕ) : Type 0 where
+  pub refused : issueCallNumber key rounds roll contractor right out ≡ 0 → CallWithdrawn contractor (changesFrom calls) roll → (1 ≤ code) × (code ≤ 999)
+
+-- the answer itself: the number of the refusal to issue, or what gordzila_check says of the grant on the roll that the calls left
+unfoldable pub keptCode : List ℕ → ℕ → List ℕ → ℕ → ℕ → ℕ → List ℕ → ℕ → ℕ → List ℕ → ℕ
+keptCode key rounds roll contractor block right calls asked access out =
+    answered (issueCallNumber key rounds roll contractor right out)
+    (callCode key rounds (bytesAfter (changesFrom calls) roll) (grantGiven key rounds roll contractor block right out) asked access)
+    (issueCallNumber key rounds roll contractor right out)
+
+-- and the roll: as it was where the issue was refused, else as the calls left it
+unfoldable pub keptRoll : List ℕ → ℕ → List ℕ → ℕ → ℕ → List ℕ → List ℕ → List ℕ
+keptRoll key rounds roll contractor right calls out =
+    answered (issueCallNumber key rounds roll contractor right out) (bytesAfter (changesFrom calls) roll) roll

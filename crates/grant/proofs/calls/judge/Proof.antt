@@ -55,8 +55,8 @@ returns-4 c =
 count-in-requires : tie.Need-count-in-requires
 count-in-requires c κs = search needs
 
-cast-if5 : tie.Need-cast-if5
-cast-if5 c = search needs
+cast-on-roll : tie.Need-cast-on-roll
+cast-on-roll c = search needs
 
 returns-5 : tie.Need-returns-5
 returns-5 c =
@@ -86,7 +86,7 @@ judge-spec =
     is-in-standing-requires
     returns-4
     count-in-requires
-    cast-if5
+    cast-on-roll
     returns-5
     right-of-requires
     returns-6)

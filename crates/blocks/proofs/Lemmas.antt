@@ -1,5 +1,5 @@
--- A term of each type of specs/Claims.antt.
-use Rattle.blocks.specs.Claims.{BytesTellStates, StatesTellBytes, BytesTellLists}
+-- A term of each type of specs/Lemmas.antt.
+use Rattle.blocks.specs.Lemmas.{BytesTellStates, StatesTellBytes, BytesTellLists}
 use Rattle.blocks.proofs.RoundTrip.{state-bytes, bytes-state, list-bytes}
 
 pub bytes-tell-states : BytesTellStates

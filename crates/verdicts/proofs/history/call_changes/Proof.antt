@@ -1,0 +1,72 @@
+-- `verdicts::history::call_changes` meets its contract.
+use mathlib.Core.Path.{_≡_, refl, _∙_}
+use Prim.Native.Nat.{_-_, _≤_}
+use native.Mathlib.Omega.{arith}
+use denote.Ref.{now}
+use lib.ListN.{length}
+use Rattle.boxes.specs.Boxes.{bytesAfter}
+use Rattle.verdicts.specs.Decisions.{changesFrom}
+use Rattle.verdicts.proofs.Kept.{after-to, after-next, after-all}
+use borrow.Author.Needs.{needs}
+use Rattle.verdicts.proofs.history.call_changes.Statement.{statement}
+use Rattle.verdicts.proofs.history.call_changes.Tie as tie
+
+abbrev Inv-loop : tie.InvT-loop
+Inv-loop roll₀ calls i₀ roll i = (length roll ≡ length roll₀) × ((i ≤ length calls) × (roll ≡ after-to calls i roll₀))
+
+abbrev μ-loop : tie.MeasureT-loop
+μ-loop roll₀ calls i₀ roll i = length calls - i
+
+loop-holds : tie.Need-loop-holds Inv-loop μ-loop
+unfolding after-to bytesAfter changesFrom
+loop-holds c = (refl, (omega arith, refl))
+
+mul-call-change : tie.Need-mul-call-change Inv-loop μ-loop
+mul-call-change c = search needs
+
+shared-slice-read-call-change : tie.Need-shared-slice-read-call-change Inv-loop μ-loop
+shared-slice-read-call-change c = search needs
+
+call-change-requires : tie.Need-call-change-requires Inv-loop μ-loop
+call-change-requires c κs = search needs
+
+add-i : tie.Need-add-i Inv-loop μ-loop
+add-i c = search needs
+
+loop-less : tie.Need-loop-less Inv-loop μ-loop
+loop-less c = search needs
+
+loop-again : tie.Need-loop-again Inv-loop μ-loop
+loop-again c =
+    let k = c .before .before in
+    let l = k .before .before .before .before in
+    let a = l .before .before .before .args in
+    let i = l .loop .i in
+    let n = after-next (now (a .calls)) i (k .before .before .before .loop-test .taken) (now (a .roll)) (l .loop .roll) _ (l .loop .inv .1 .1)
+    (k .call-change .ensures) in
+    (k .call-change .kept .0 ∙ l .loop .inv .0, (omega arith, n))
+
+same-length : tie.Need-same-length Inv-loop μ-loop
+same-length c = search needs
+
+returns : tie.Need-returns Inv-loop μ-loop
+returns c =
+    let l = c .before .loop in
+    let a = c .before .before .before .before .args in
+    l .inv .1 .1 ∙ after-all (now (a .calls)) (l .i) (omega arith) (now (a .roll))
+
+pub call-changes-spec : {M : Type 1} → statement M
+call-changes-spec =
+    tie.close
+    (tie.spec
+    Inv-loop
+    μ-loop
+    loop-holds
+    mul-call-change
+    shared-slice-read-call-change
+    call-change-requires
+    add-i
+    loop-less
+    loop-again
+    same-length
+    returns)
