@@ -12,8 +12,8 @@ use Rattle.refusal.proofs.Tries.{first-passes}
 use Rattle.blocks.specs.Blocks.{AreBytes}
 use Rattle.roll.specs.declared.Roll.{Roll}
 use Rattle.roll.specs.Roll.{counted, enterTries, enteredRoll, withdrawTries, withdrawnRoll, rollOf, rollBytes}
-use Rattle.roll.specs.Claims.{RollTellsBytes}
-use Rattle.roll.proofs.Claims.{roll-tells-bytes}
+use Rattle.roll.specs.Lemmas.{RollTellsBytes}
+use Rattle.roll.proofs.Lemmas.{roll-tells-bytes}
 use Rattle.roll.proofs.Pairs.{length-counts, counts-small, length-bytes, bytes-small}
 use Rattle.histories.specs.Histories.{Change, enter, withdraw, changed, rollAfter, Withdrawn, IsRoll}
 use Rattle.histories.specs.Histories as H

@@ -1,14 +1,21 @@
 -- The known answers: beside document 01's thirteen cases, a second list of computed facts, which pins definitions that no case of document 01
 -- pins. What is expected is what the independent program prints, line by line (`reference answers`); `tools/known-answers` compares the two.
--- Each crate has those of its definitions beside them; here stand the last stages and the closing sums, and the claim over them all.
+-- Each crate has those of its definitions beside them; here stand the last stages and the closing sums, and the claim over them all. Where
+-- that program has no such call, document 01's order lines are taken as they stand.
 use mathlib.Core.List.{List, [], _∷_}
+use lib.ListN.{replicate}
 use Rattle.basics.specs.Cases.{Case, _is_, HoldAll, threes, joined}
 use Rattle.sizes.specs.KnownAnswers as S
 use Rattle.blocks.specs.KnownAnswers as B
+use Rattle.engine.specs.Engine.{engineNumber}
 use Rattle.schedule.specs.Stages.{stage, closingSum, subkeyOf}
 use Rattle.schedule.specs.KnownAnswers.{keyOf12, keyOf18, keyOf24}
 use Rattle.schedule.specs.KnownAnswers as K
+use Rattle.lists.specs.Lists.{prepareNumber}
 use Rattle.lists.specs.KnownAnswers as L
+use Rattle.cipher.specs.Cipher.{cipherNumber}
+use Rattle.holder.specs.Holder.{blank}
+use Rattle.holder.specs.Calls.{straightNumber, walkNumber}
 use Rattle.holder.specs.KnownAnswers as H
 use Rattle.roll.specs.KnownAnswers as R
 use Rattle.grant.specs.KnownAnswers as G
@@ -33,6 +40,25 @@ knownAnswers =
     ∷ (closingSum 4 is threes (0xDE830C ∷ 0x372888 ∷ 0x1AD622 ∷ 0x3F464E ∷ 0x18ED16 ∷ 0x7CAD89 ∷ 0x9C8707 ∷ 0x980488 ∷ []))
     ∷ []
 
+-- document 01's order lines of the other calls, where two neighbours hold together
+unfoldable pub orderAnswers : List Case
+orderAnswers =
+    -- cipher 1, 2, 3, 4
+    ((cipherNumber (replicate 11 0) 12 (replicate 12 0) (replicate 12 0) ∷ []) is (1 ∷ []))
+    ∷ ((cipherNumber (replicate 12 0) 12 (replicate 11 0) (replicate 12 0) ∷ []) is (2 ∷ []))
+    ∷ ((cipherNumber (replicate 12 0) 10 (replicate 11 0) (replicate 11 0) ∷ []) is (3 ∷ []))
+    -- prepared list 1, 2, 4
+    ∷ ((prepareNumber (replicate 11 0) 12 (replicate 288 0) ∷ []) is (1 ∷ []))
+    ∷ ((prepareNumber (replicate 12 0) 12 (replicate 131 0) ∷ []) is (2 ∷ []))
+    -- engine 5, 3, 4
+    ∷ ((engineNumber (replicate 131 0) (replicate 11 0) (replicate 12 0) ∷ []) is (5 ∷ []))
+    ∷ ((engineNumber (replicate 132 0) (replicate 11 0) (replicate 11 0) ∷ []) is (3 ∷ []))
+    -- stage from key 1, 5
+    ∷ ((straightNumber (replicate 11 0) 24 ∷ []) is (1 ∷ []))
+    -- holder 24, 5
+    ∷ ((walkNumber blank 24 ∷ []) is (24 ∷ []))
+    ∷ []
+
 -- all of them
 unfoldable pub allKnownAnswers : List (List Case)
 allKnownAnswers =
@@ -44,6 +70,7 @@ allKnownAnswers =
     ∷ R.knownAnswers
     ∷ G.knownAnswers
     ∷ knownAnswers
+    ∷ orderAnswers
     ∷ []
 
 -- the claim. The term of this type stands in proofs/KnownAnswers.antt

@@ -64,7 +64,8 @@ module _ (list block : List ℕ) (hl : AreBytes list) (hb : AreBytes block) (e :
 
   again-written : (again : List ℕ) → 12 ≤ length again → engineOutput (turnedBytes list) (engineBlock list block) again ≡ block ++ drop 12 again
   again-written again l =
-      sym (put (engineNumber (turnedBytes list) (engineBlock list block) again) (engineBlock (turnedBytes list) (engineBlock list block)) again (accepted again l))
+      let g = engineBlock list block in
+      sym (put (engineNumber (turnedBytes list) g again) (engineBlock (turnedBytes list) g) again (accepted again l))
       ∙ ap (λ (b : List ℕ). b ++ drop (length b) again) block-back
       ∙ ap (λ (n : ℕ). block ++ drop n again) eb
 

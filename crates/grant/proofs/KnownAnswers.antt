@@ -8,4 +8,4 @@ use Rattle.grant.specs.KnownAnswers.{knownAnswers}
 
 pub known-answers : Hold knownAnswers
 unfolding knownAnswers plainGrant contractorIn countIn blockIn isMarked isGrant first emptyRoll countOf inStanding
-known-answers = (refl, (refl, (refl, (refl, (refl, (refl, (refl, (refl, (refl, (refl, (refl, (refl, (refl, (refl, (refl, tt)))))))))))))))
+known-answers = (refl, (refl, (refl, (refl, (refl, (refl, (refl, (refl, (refl, (refl, (refl, (refl, (refl, (refl, (refl, (refl, (refl, tt)))))))))))))))))

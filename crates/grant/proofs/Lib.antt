@@ -2,3 +2,4 @@ pub mod Tests
 pub mod Verdicts
 pub mod Ciphers
 pub mod KnownAnswers
+pub mod Judged

@@ -1,6 +1,6 @@
 -- What issuing and checking a grant answer: document 01, "Roll and grant" and the order lines "issue 1, 2, 4, 6, 7, 20" and
 -- "check 1, 2, 3, 7, 8, 9, 10, 20, 23".
-use mathlib.Core.List.{List, [], _∷_}
+use mathlib.Core.List.{List, [], _∷_, _++_}
 use Prim.Native.Nat.{ℕ}
 use lib.Dec.{eqb, leb}
 use lib.ListN.{length}
@@ -39,15 +39,23 @@ issueOutput key rounds roll contractor block right out =
 unfoldable pub openedGrant : List ℕ → ℕ → List ℕ → List ℕ
 openedGrant key rounds grant = cipherBlock Deciphering key rounds grant
 
--- what is tried of the plain bytes p
-abbrev pub plainTries : List ℕ → Roll → ℕ → ℕ → List Try
-plainTries p roll block right =
-    (8 unless isGrant p)
-    ∷ (9 unless eqb (blockIn p) block)
+-- what was asked for, against the plain bytes p
+abbrev pub askedTries : List ℕ → ℕ → ℕ → List Try
+askedTries p block right =
+    (9 unless eqb (blockIn p) block)
     ∷ (10 unless eqb (rightIn p) right)
-    ∷ (20 unless inStanding (countOf roll (contractorIn p)))
+    ∷ []
+
+-- the contractor's standing, against the one written in p
+abbrev pub standingTries : List ℕ → Roll → List Try
+standingTries p roll =
+    (20 unless inStanding (countOf roll (contractorIn p)))
     ∷ (23 unless eqb (countIn p) (countOf roll (contractorIn p)))
     ∷ []
+
+-- what is tried of the plain bytes p: 8, then 9 and 10, then 20 and 23
+abbrev pub plainTries : List ℕ → Roll → ℕ → ℕ → List Try
+plainTries p roll block right = (8 unless isGrant p) ∷ (askedTries p block right ++ standingTries p roll)
 
 abbrev pub checkTries : List ℕ → ℕ → Roll → List ℕ → ℕ → ℕ → List Try
 checkTries key rounds roll grant block right =

@@ -1,5 +1,5 @@
 -- Known answers for grants: plain bytes written and read, and the order of refusals where two reasons hold together, as the independent
--- program prints them. Each comment begins its line.
+-- program prints them. Each comment begins its line; of a line `order` the two reasons and the number given are that program's, the input is ours.
 use mathlib.Core.List.{List, [], _∷_}
 use Prim.Native.Nat.{ℕ}
 use lib.ListN.{replicate}
@@ -9,10 +9,7 @@ use Rattle.roll.specs.Roll.{emptyRoll}
 use Rattle.grant.specs.Grants.{plainGrant, contractorIn, countIn, blockIn, rightIn}
 use Rattle.grant.specs.Calls.{issueNumber, plainTries, checkNumber}
 
-abbrev pub zeros : ℕ → List ℕ
-zeros n = replicate n 0
-
--- a grant for another size block and another right than those asked for below, of a contractor who is not in standing
+-- a grant to contractor 200, who is not in standing on an empty roll, for reading size block 16,909,060
 abbrev pub plain : List ℕ
 plain = threes (0x00C812 ∷ 0x350102 ∷ 0x030401 ∷ 0x475244 ∷ [])
 
@@ -25,23 +22,26 @@ knownAnswers =
     -- and read again
     ∷ ((contractorIn plain ∷ countIn plain ∷ blockIn plain ∷ rightIn plain ∷ []) is (200 ∷ 4661 ∷ 16909060 ∷ 1 ∷ []))
     -- order issue 1 2
-    ∷ ((issueNumber (zeros 11) 12 emptyRoll 7 2 (replicate 12 0) ∷ []) is (1 ∷ []))
+    ∷ ((issueNumber (replicate 11 0) 12 emptyRoll 7 2 (replicate 12 0) ∷ []) is (1 ∷ []))
     -- order issue 2 6
-    ∷ ((issueNumber (zeros 12) 12 emptyRoll 0 2 (replicate 12 0) ∷ []) is (2 ∷ []))
+    ∷ ((issueNumber (replicate 12 0) 12 emptyRoll 0 2 (replicate 12 0) ∷ []) is (2 ∷ []))
     -- order issue 6 7
-    ∷ ((issueNumber (zeros 12) 10 emptyRoll 0 3 (replicate 12 0) ∷ []) is (6 ∷ []))
+    ∷ ((issueNumber (replicate 12 0) 10 emptyRoll 0 3 (replicate 12 0) ∷ []) is (6 ∷ []))
     -- order issue 7 20
-    ∷ ((issueNumber (zeros 12) 10 emptyRoll 7 3 (replicate 12 0) ∷ []) is (7 ∷ []))
+    ∷ ((issueNumber (replicate 12 0) 10 emptyRoll 7 3 (replicate 12 0) ∷ []) is (7 ∷ []))
+    -- document 01's order line has 4 between 2 and 6; that program's issue has no output
+    ∷ ((issueNumber (replicate 12 0) 12 emptyRoll 7 2 (replicate 11 0) ∷ []) is (2 ∷ []))
+    ∷ ((issueNumber (replicate 12 0) 10 emptyRoll 0 2 (replicate 11 0) ∷ []) is (4 ∷ []))
     -- order check 1 2
-    ∷ ((checkNumber (zeros 11) 12 emptyRoll (zeros 12) 300 2 ∷ []) is (1 ∷ []))
+    ∷ ((checkNumber (replicate 11 0) 12 emptyRoll (replicate 12 0) 300 2 ∷ []) is (1 ∷ []))
     -- order check 2 3
-    ∷ ((checkNumber (zeros 12) 12 emptyRoll (zeros 11) 300 2 ∷ []) is (2 ∷ []))
+    ∷ ((checkNumber (replicate 12 0) 12 emptyRoll (replicate 11 0) 300 2 ∷ []) is (2 ∷ []))
     -- order check 3 7
-    ∷ ((checkNumber (zeros 12) 10 emptyRoll (zeros 11) 300 3 ∷ []) is (3 ∷ []))
+    ∷ ((checkNumber (replicate 12 0) 10 emptyRoll (replicate 11 0) 300 3 ∷ []) is (3 ∷ []))
     -- order check 7 8
-    ∷ ((checkNumber (zeros 12) 10 emptyRoll (zeros 12) 300 3 ∷ []) is (7 ∷ []))
+    ∷ ((checkNumber (replicate 12 0) 10 emptyRoll (replicate 12 0) 300 3 ∷ []) is (7 ∷ []))
     -- order check 8 9
-    ∷ ((first (plainTries (zeros 12) emptyRoll 300 2) ∷ []) is (8 ∷ []))
+    ∷ ((first (plainTries (replicate 12 0) emptyRoll 300 2) ∷ []) is (8 ∷ []))
     -- order check 9 10
     ∷ ((first (plainTries plain emptyRoll 300 2) ∷ []) is (9 ∷ []))
     -- order check 10 20

@@ -5,7 +5,7 @@ ghost use mathlib.Core.Bool.{true};
 ghost use Rattle.refusal.specs.Reasons.{outcomeNumber};
 ghost use Rattle.refusal.specs.Tries.{first, answered};
 ghost use Rattle.grant.specs.Grants.{isRight, contractorIn, rightIn, verdictNumber, verdictContractor, verdictRight};
-ghost use Rattle.grant.specs.Calls.{issueNumber, issueOutput, plainTries, checkNumber, checkContractor, checkRight};
+ghost use Rattle.grant.specs.Calls.{issueNumber, issueOutput, askedTries, plainTries, checkNumber, checkContractor, checkRight};
 use crate::Grant;
 use crate::Verdict;
 use crate::plain::block_in;
@@ -56,6 +56,19 @@ pub fn issue(
     cipher::encipher(key, rounds, &plain, out)
 }
 
+// What was asked for: the size block, then the right.
+fn asked_for(p: &[u8; 12], block: u32, right: u32) -> Outcome
+    ensures { λ r. ⌜ outcomeNumber r ≡ first (askedTries (now (p .entry)) block right) ⌝ }
+{
+    if block_in(p) != block {
+        return Outcome::Refused(Reason::OtherBlock);
+    }
+    if right_in(p) != right {
+        return Outcome::Refused(Reason::OtherRight);
+    }
+    Outcome::Done
+}
+
 // The verdict on a grant's plain bytes.
 fn judge(p: &[u8; 12], roll: Roll, block: u32, right: u32) -> Verdict
     requires { ⌜ isRight right ≡ true ⌝ }
@@ -66,12 +79,9 @@ fn judge(p: &[u8; 12], roll: Roll, block: u32, right: u32) -> Verdict
     if !is_grant(p) {
         return Verdict::Refused(Reason::NotAGrant);
     }
-    if block_in(p) != block {
-        return Verdict::Refused(Reason::OtherBlock);
-    }
-    let granted = right_in(p);
-    if granted != right {
-        return Verdict::Refused(Reason::OtherRight);
+    let asked = asked_for(p, block, right);
+    if let Outcome::Refused(reason) = asked {
+        return Verdict::Refused(reason);
     }
     let contractor = contractor_in(p);
     let current = roll::count_of(roll, contractor);

@@ -4,7 +4,7 @@ ghost use mathlib.Core.Path.{_≡_};
 ghost use mathlib.Core.Bool.{true};
 ghost use Prim.Native.Nat.{_<_};
 ghost use lib.ListN.{length};
-ghost use Rattle.sizes.specs.Sizes.{keyLength};
+ghost use Rattle.sizes.specs.Sizes.{keyLength, sizeOf, turn};
 ghost use Rattle.holder.specs.Holder.{holderAt, blank};
 use crate::Holder;
 
@@ -20,7 +20,7 @@ pub fn blank_holder() -> Holder
 
 // The holder of a key at its stage n.
 pub fn stage_at(key: &[u8], n: usize) -> Holder
-    requires { ⌜ (keyLength (length (now key)) ≡ true) × (n < length (now key)) ⌝ }
+    requires { ⌜ (keyLength (length (now key)) ≡ true) × (n < turn (sizeOf (length (now key)))) ⌝ }
     ensures { λ r. ⌜ r ≡ holderAt (now (key .entry)) n ⌝ }
 {
     let t = key.len() / 6;

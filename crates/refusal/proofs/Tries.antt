@@ -1,7 +1,7 @@
 -- The laws of trying reasons in order.
 use mathlib.Core.Path.{_≡_, refl, sym, ap, _∙_, subst}
 use mathlib.Core.Bool.{Bool, true, false, cond}
-use mathlib.Core.List.{List, [], _∷_}
+use mathlib.Core.List.{List, [], _∷_, _++_}
 use Prim.Native.Nat.{ℕ, _<_}
 use native.Mathlib.Omega.{arith}
 use Rattle.refusal.specs.Tries.{Try, first, NoneHolds}
@@ -28,6 +28,20 @@ none-holds (t ∷ ts) n e = by (t .passes) refl (λ e. none-holds ts (n .1) e)
     by : (b : Bool) → t .passes ≡ b → (first ts ≡ 0 → NoneHolds ts) → NoneHolds (t ∷ ts)
     by true p more = (p, more (sym (first-passes t ts p) ∙ e))
     by false p more = let z : ⊥ = omega (arith, sym (first-holds t ts p) ∙ e, n .0) in absurd z
+
+-- tries appended: the first list's number where it gives one, else the second's
+pub first-before : (xs ys : List Try) (n : ℕ) → 0 < n → first xs ≡ n → first (xs ++ ys) ≡ n
+unfolding first
+first-before [] ys n h e = let z : ⊥ = omega arith in absurd z
+first-before (x ∷ xs) ys n h e = by (x .passes) e (first-before xs ys n h)
+  where
+    by : (b : Bool) → cond b (first xs) (x .number) ≡ n → (first xs ≡ n → first (xs ++ ys) ≡ n) → cond b (first (xs ++ ys)) (x .number) ≡ n
+    by true e more = more e
+    by false e more = e
+
+pub first-then : (xs ys : List Try) → NoneHolds xs → first (xs ++ ys) ≡ first ys
+first-then [] ys h = refl
+first-then (x ∷ xs) ys h = first-passes x (xs ++ ys) (h .0) ∙ first-then xs ys (h .1)
 
 pub first-of : (ts : List Try) → 0 < first ts → FirstOf ts
 unfolding first

@@ -129,8 +129,10 @@ module _ (key : List ℕ) (rounds : ℕ) (roll : Roll) (contractor block right :
       let z : countOf roll contractor ≡ countOf later contractor = sym (names .1) ∙ same ∙ ap (countOf later) (names .0) in
       omega (arith, l)
 
-  pub revoked : IsRoll roll → (hs : List Change) → Withdrawn contractor hs roll → OpensNothing key rounds (rollAfter hs roll) (issuedGrant key rounds roll contractor block right)
+  pub revoked : IsRoll roll → (hs : List Change) → Withdrawn contractor hs roll
+      → OpensNothing key rounds (rollAfter hs roll) (issuedGrant key rounds roll contractor block right)
   revoked z hs w = risen (rollAfter hs roll) (counted-up hs roll z contractor w)
 
-  pub revoked-asked : IsRoll roll → (hs : List Change) → Withdraws contractor hs → OpensNothing key rounds (rollAfter hs roll) (issuedGrant key rounds roll contractor block right)
+  pub revoked-asked : IsRoll roll → (hs : List Change) → Withdraws contractor hs
+      → OpensNothing key rounds (rollAfter hs roll) (issuedGrant key rounds roll contractor block right)
   revoked-asked z hs w = risen (rollAfter hs roll) (asked-counts hs roll z contractor (allowed .1 .1 .1 .0) (allowed .1 .1 .1 .1 .1 .0) w)

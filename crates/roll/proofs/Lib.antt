@@ -1,4 +1,4 @@
 pub mod Contractors
 pub mod Pairs
-pub mod Claims
+pub mod Lemmas
 pub mod KnownAnswers

@@ -1,5 +1,5 @@
 -- Known answers for rolls: counts from bytes and back, who is in standing, and the order of refusals, as the independent program prints them.
--- Each comment begins its line.
+-- Each comment begins its line; of the line `order` the two reasons and the number given are that program's, the input is ours.
 use mathlib.Core.List.{List, [], _∷_}
 use Prim.Native.Nat.{ℕ}
 use Rattle.basics.specs.Cases.{Case, _is_, flag}

@@ -1,3 +1,3 @@
 pub mod Roll
-pub mod Claims
+pub mod Lemmas
 pub mod KnownAnswers

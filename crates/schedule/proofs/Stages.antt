@@ -1,7 +1,7 @@
 -- The stages of a key are stages, and so are the constants and the closing sum.
 use mathlib.Core.Path.{_≡_, sym, ap}
 use mathlib.Core.List.{List}
-use Prim.Native.Nat.{ℕ, zero, suc, _+_, _-_, _*_, _<_}
+use Prim.Native.Nat.{ℕ, zero, suc, _-_, _*_, _<_}
 use lib.Dec.{lit<}
 use Rattle.sbox.specs.Sbox.{sbox}
 use Rattle.sbox.proofs.Laws.{sbox-small}

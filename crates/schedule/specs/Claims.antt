@@ -5,7 +5,7 @@ use mathlib.Core.List.{List}
 use Prim.Native.Nat.{ℕ}
 use Rattle.field.specs.Field.{_⊕_, cubeRoot}
 use Rattle.schedule.specs.Columns.{IsStage, columnRule}
-use Rattle.schedule.specs.Stages.{linearStep, inverseStep, stage}
+use Rattle.schedule.specs.Stages.{linearStep, inverseStep}
 
 -- the column rules with c and with c + 1 undo each other, on every stage of any number of columns
 unfoldable pub ColumnRuleUndone : Type 0

@@ -11,7 +11,7 @@ ghost use Rattle.sbox.specs.Sbox.{tableP, tableQ};
 ghost use Rattle.layers.specs.State.{column};
 ghost use Rattle.schedule.specs.Columns.{cell, plus, padded};
 ghost use Rattle.schedule.specs.Stages.{linearStep, constant, subkeyByte, subkeyOf};
-ghost use Rattle.sizes.specs.Sizes.{Sized};
+ghost use Rattle.sizes.specs.Sizes.{turn, Sized};
 use crate::column::column_term;
 
 // Row 1 of the column after j, from a stage whose columns before j are written already; first is row 1 of the first column as it was.
@@ -49,7 +49,7 @@ pub fn linear_step(t: usize, k: &mut [u8; 24])
 
 // Constant s, which has zeros in rows 1 and 2, added to a stage in place.
 pub fn add_constant(t: usize, s: usize, k: &mut [u8; 24])
-    requires { ⌜ Sized t × (((0 < s) × (s < 6 * t)) × (length (now k) ≡ 24)) ⌝ }
+    requires { ⌜ Sized t × (((0 < s) × (s < turn t)) × (length (now k) ≡ 24)) ⌝ }
     ensures { λ _. ⌜ now (k .exit) ≡ plus (2 * t) (now (k .entry)) (constant t s) ++ drop (6 * t) (now (k .entry)) ⌝ }
 {
     let n = 2 * t;
@@ -66,7 +66,7 @@ pub fn add_constant(t: usize, s: usize, k: &mut [u8; 24])
 
 // Stage s from stage s - 1, in place.
 pub fn next_stage(t: usize, s: usize, k: &mut [u8; 24])
-    requires { ⌜ Sized t × (((0 < s) × (s < 6 * t)) × (length (now k) ≡ 24)) ⌝ }
+    requires { ⌜ Sized t × (((0 < s) × (s < turn t)) × (length (now k) ≡ 24)) ⌝ }
     ensures { λ _. ⌜ now (k .exit) ≡ linearStep (2 * t) (plus (2 * t) (now (k .entry)) (constant t s)) ++ drop (6 * t) (now (k .entry)) ⌝ }
 {
     add_constant(t, s, k);

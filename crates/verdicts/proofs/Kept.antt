@@ -2,7 +2,7 @@
 use mathlib.Core.Path.{_≡_, refl, sym, ap, _∙_, subst⁻¹}
 use mathlib.Core.Bool.{Bool, cond}
 use mathlib.Core.List.{List, [], _∷_, _++_}
-use Prim.Native.Nat.{ℕ, suc, _+_, _%_, _/_, _≤_, _<_}
+use Prim.Native.Nat.{ℕ, _+_, _%_, _/_, _≤_, _<_}
 use native.Mathlib.Omega.{arith}
 use native.Mathlib.Numerals.{add-one}
 use lib.ListN.{length, getD, take}
@@ -11,7 +11,7 @@ use borrow.Author.Tests.{eq-eqb, ne-eqb}
 use Rattle.refusal.specs.Tries.{Try}
 use Rattle.refusal.proofs.Answers.{answer-refused, answer-done}
 use Rattle.blocks.specs.Blocks.{AreBytes}
-use Rattle.histories.specs.Histories.{Change, enter, withdraw}
+use Rattle.histories.specs.Histories.{enter, withdraw}
 use Rattle.capi.specs.Codes.{callCode}
 use Rattle.capi.specs.Hosts.{issueCallTries, issueCallNumber, issueCallOutput}
 use Rattle.boxes.specs.Boxes.{called, bytesAfter, CallIssued, grantGiven}
@@ -37,10 +37,10 @@ after-more (x ∷ ns) n roll = after-more ns n (called (changeFrom x) roll)
 unfoldable pub after-to : List ℕ → ℕ → List ℕ → List ℕ
 after-to calls i roll = bytesAfter (changesFrom (take i calls)) roll
 
-pub after-next : (calls : List ℕ) (i : ℕ) → i < length calls → (roll now next : List ℕ) → now ≡ after-to calls i roll
-    → next ≡ called (changeFrom (getD calls i 0)) now → next ≡ after-to calls (i + 1) roll
+pub after-next : (calls : List ℕ) (i : ℕ) → i < length calls → (roll here next : List ℕ) → here ≡ after-to calls i roll
+    → next ≡ called (changeFrom (getD calls i 0)) here → next ≡ after-to calls (i + 1) roll
 unfolding after-to
-after-next calls i h roll now next en ex =
+after-next calls i h roll here next en ex =
     ex ∙ ap (called (changeFrom (getD calls i 0))) en ∙ sym (after-more (take i calls) (getD calls i 0) roll)
     ∙ ap (λ (l : List ℕ). bytesAfter (changesFrom l) roll) (sym (take-suc calls i 0 h))
     ∙ ap (λ (m : ℕ). bytesAfter (changesFrom (take m calls)) roll) (sym (add-one i))

@@ -109,7 +109,8 @@ module _ (key : List ℕ) (rounds : ℕ) (roll : Roll) (contractor block right :
 
 -- ---- the same of the C calls
 module _ (key : List ℕ) (rounds : ℕ) (roll : List ℕ) (contractor block right : ℕ) (out : List ℕ) where
-  pub call-refused-first : (n : ℕ) → n ≡ issueCallNumber key rounds roll contractor right out → (n ≡ 0 → ⊥) → n ≡ issuedCode key rounds roll contractor right out
+  pub call-refused-first : (n : ℕ) → n ≡ issueCallNumber key rounds roll contractor right out → (n ≡ 0 → ⊥)
+      → n ≡ issuedCode key rounds roll contractor right out
   unfolding issuedCode
   call-refused-first n e d =
       let ts = issueCallTries key rounds roll contractor right out in

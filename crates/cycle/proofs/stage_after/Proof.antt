@@ -53,7 +53,8 @@ next-stage-requires c κs =
 returns : tie.Need-returns
 unfolding stageAfter
 returns c =
-    let p = c .before .before .before .before .before .before in
+    let q = c .before .before .before in
+    let p = q .before .before .before in
     let t = p .args .t in
     let s = p .args .s in
     let k = p .args .t3 in

@@ -1,15 +1,11 @@
 -- `grant::calls::judge` meets its contract.
 use mathlib.Core.Path.{sym, ap, _∙_}
-use mathlib.Core.List.{[]}
-use native.Mathlib.Omega.{arith}
 use denote.Ref.{now}
-use borrow.Author.Tests.{not-true, not-false, eq-eqb, ne-eqb}
-use Rattle.refusal.proofs.Tries.{first-passes, first-holds, none-given}
-use Rattle.roll.specs.Roll.{isContractor, countOf, inStanding}
-use Rattle.grant.specs.Grants.{contractorIn, countIn, blockIn, rightIn}
-use Rattle.grant.specs.Calls.{plainTries}
+use borrow.Author.Tests.{not-true, not-false}
+use Rattle.refusal.specs.Reasons.{outcomeNumber}
+use Rattle.roll.specs.Roll.{isContractor, countOf}
 use Rattle.grant.proofs.Tests.{a-grant}
-use Rattle.grant.proofs.Verdicts.{verdict-refused, verdict-opens}
+use Rattle.grant.proofs.Judged.{not-whole, not-asked, right-asked, not-standing, other-count, whole}
 use borrow.Author.Needs.{needs}
 use Rattle.grant.proofs.calls.judge.Statement.{statement}
 use Rattle.grant.proofs.calls.judge.Tie as tie
@@ -19,38 +15,51 @@ is-grant-requires c κs = search needs
 
 returns : tie.Need-returns
 returns c =
-    verdict-refused (plainTries (now (c .before .before .args .p)) (c .before .before .args .roll) (c .before .before .args .block) (c .before .before .args .right)) (contractorIn (now (c .before .before .args .p))) (rightIn (now (c .before .before .args .p))) 8 (omega arith)
-    (first-holds _ _ (sym (c .before .is-grant .ensures) ∙ not-true _ (c .if1 .taken)))
+    let a = c .before .before .args in
+    not-whole (now (a .p)) (a .roll) (a .block) (a .right) (sym (c .before .is-grant .ensures) ∙ not-true _ (c .if1 .taken))
 
-block-in-requires : tie.Need-block-in-requires
-block-in-requires c κs = search needs
+asked-for-requires : tie.Need-asked-for-requires
+asked-for-requires c κs = search needs
+
+enum-known-asked : tie.Need-enum-known-asked
+enum-known-asked c = search needs
 
 returns-2 : tie.Need-returns-2
 returns-2 c =
-    verdict-refused (plainTries (now (c .before .before .before .before .args .p)) (c .before .before .before .before .args .roll) (c .before .before .before .before .args .block) (c .before .before .before .before .args .right)) (contractorIn (now (c .before .before .before .before .args .p))) (rightIn (now (c .before .before .before .before .args .p))) 9 (omega arith)
-    (first-passes _ _ (sym (c .before .before .before .is-grant .ensures) ∙ not-false _ (c .before .before .if1 .left)) ∙ first-holds _ _ (ne-eqb (blockIn (now (c .before .before .before .before .args .p))) (c .before .before .before .before .args .block) (λ e. c .if2 .taken (c .before .block-in .ensures ∙ e))))
+    let k = c .before in
+    let f = k .before .before in
+    let e = f .before in
+    let a = e .before .before .args in
+    let g = sym (e .before .is-grant .ensures) ∙ not-false _ (e .if1 .left) in
+    not-asked (now (a .p)) (a .roll) (a .block) (a .right) g (k .asked .given .0 .0) (sym (ap outcomeNumber (k .asked .given .1)) ∙ f .asked-for .ensures)
 
-right-in-requires : tie.Need-right-in-requires
-right-in-requires c κs = search needs
-
-returns-3 : tie.Need-returns-3
-returns-3 c =
-    verdict-refused (plainTries (now (c .before .before .before .before .before .before .args .p)) (c .before .before .before .before .before .before .args .roll) (c .before .before .before .before .before .before .args .block) (c .before .before .before .before .before .before .args .right)) (contractorIn (now (c .before .before .before .before .before .before .args .p))) (rightIn (now (c .before .before .before .before .before .before .args .p))) 10 (omega arith)
-    (first-passes _ _ (sym (c .before .before .before .before .before .is-grant .ensures) ∙ not-false _ (c .before .before .before .before .if1 .left)) ∙ first-passes _ _ (eq-eqb (blockIn (now (c .before .before .before .before .before .before .args .p))) (c .before .before .before .before .before .before .args .block) (sym (c .before .before .before .block-in .ensures) ∙ c .before .before .if2 .left)) ∙ first-holds _ _ (ne-eqb (rightIn (now (c .before .before .before .before .before .before .args .p))) (c .before .before .before .before .before .before .args .right) (λ e. c .if3 .taken (c .before .right-in .ensures ∙ e))))
+enum-told : tie.Need-enum-told
+enum-told c = search needs
 
 contractor-in-requires : tie.Need-contractor-in-requires
 contractor-in-requires c κs = search needs
 
 count-of-requires : tie.Need-count-of-requires
-count-of-requires c κs = ap isContractor (c .contractor-in .ensures) ∙ a-grant _ (sym (c .before .before .before .before .before .before .is-grant .ensures) ∙ not-false _ (c .before .before .before .before .before .if1 .left)) .contractor
+count-of-requires c κs =
+    let e = c .before .before .before .before in
+    let g = sym (e .before .is-grant .ensures) ∙ not-false _ (e .if1 .left) in
+    ap isContractor (c .contractor-in .ensures) ∙ a-grant _ g .contractor
 
 is-in-standing-requires : tie.Need-is-in-standing-requires
 is-in-standing-requires c κs = search needs
 
-returns-4 : tie.Need-returns-4
-returns-4 c =
-    verdict-refused (plainTries (now (c .before .before .before .before .before .before .before .before .before .before .args .p)) (c .before .before .before .before .before .before .before .before .before .before .args .roll) (c .before .before .before .before .before .before .before .before .before .before .args .block) (c .before .before .before .before .before .before .before .before .before .before .args .right)) (contractorIn (now (c .before .before .before .before .before .before .before .before .before .before .args .p))) (rightIn (now (c .before .before .before .before .before .before .before .before .before .before .args .p))) 20 (omega arith)
-    (first-passes _ _ (sym (c .before .before .before .before .before .before .before .before .before .is-grant .ensures) ∙ not-false _ (c .before .before .before .before .before .before .before .before .if1 .left)) ∙ first-passes _ _ (eq-eqb (blockIn (now (c .before .before .before .before .before .before .before .before .before .before .args .p))) (c .before .before .before .before .before .before .before .before .before .before .args .block) (sym (c .before .before .before .before .before .before .before .block-in .ensures) ∙ c .before .before .before .before .before .before .if2 .left)) ∙ first-passes _ _ (eq-eqb (rightIn (now (c .before .before .before .before .before .before .before .before .before .before .args .p))) (c .before .before .before .before .before .before .before .before .before .before .args .right) (sym (c .before .before .before .before .before .right-in .ensures) ∙ c .before .before .before .before .if3 .left)) ∙ first-holds _ _ (ap inStanding (sym (c .before .before .count-of .ensures ∙ ap (countOf (c .before .before .before .before .before .before .before .before .before .before .args .roll)) (c .before .before .before .contractor-in .ensures))) ∙ sym (c .before .is-in-standing .ensures) ∙ not-true _ (c .if4 .taken)))
+returns-3 : tie.Need-returns-3
+returns-3 c =
+    let n = c .before .before in
+    let i = n .before in
+    let t = i .before in
+    let f = t .before .before in
+    let e = f .before in
+    let a = e .before .before .args in
+    let g = sym (e .before .is-grant .ensures) ∙ not-false _ (e .if1 .left) in
+    let ok = sym (f .asked-for .ensures) ∙ ap outcomeNumber (t .enum-told .given .1) in
+    let ec = n .count-of .ensures ∙ ap (countOf (a .roll)) (i .contractor-in .ensures) in
+    not-standing (now (a .p)) (a .roll) (a .block) (a .right) g ok _ ec (sym (c .before .is-in-standing .ensures) ∙ not-true _ (c .if2 .taken))
 
 count-in-requires : tie.Need-count-in-requires
 count-in-requires c κs = search needs
@@ -58,18 +67,42 @@ count-in-requires c κs = search needs
 cast-on-roll : tie.Need-cast-on-roll
 cast-on-roll c = search needs
 
-returns-5 : tie.Need-returns-5
-returns-5 c =
-    verdict-refused (plainTries (now (c .before .before .before .before .before .before .before .before .before .before .before .before .args .p)) (c .before .before .before .before .before .before .before .before .before .before .before .before .args .roll) (c .before .before .before .before .before .before .before .before .before .before .before .before .args .block) (c .before .before .before .before .before .before .before .before .before .before .before .before .args .right)) (contractorIn (now (c .before .before .before .before .before .before .before .before .before .before .before .before .args .p))) (rightIn (now (c .before .before .before .before .before .before .before .before .before .before .before .before .args .p))) 23 (omega arith)
-    (first-passes _ _ (sym (c .before .before .before .before .before .before .before .before .before .before .before .is-grant .ensures) ∙ not-false _ (c .before .before .before .before .before .before .before .before .before .before .if1 .left)) ∙ first-passes _ _ (eq-eqb (blockIn (now (c .before .before .before .before .before .before .before .before .before .before .before .before .args .p))) (c .before .before .before .before .before .before .before .before .before .before .before .before .args .block) (sym (c .before .before .before .before .before .before .before .before .before .block-in .ensures) ∙ c .before .before .before .before .before .before .before .before .if2 .left)) ∙ first-passes _ _ (eq-eqb (rightIn (now (c .before .before .before .before .before .before .before .before .before .before .before .before .args .p))) (c .before .before .before .before .before .before .before .before .before .before .before .before .args .right) (sym (c .before .before .before .before .before .before .before .right-in .ensures) ∙ c .before .before .before .before .before .before .if3 .left)) ∙ first-passes _ _ (ap inStanding (sym (c .before .before .before .before .count-of .ensures ∙ ap (countOf (c .before .before .before .before .before .before .before .before .before .before .before .before .args .roll)) (c .before .before .before .before .before .contractor-in .ensures))) ∙ sym (c .before .before .before .is-in-standing .ensures) ∙ not-false _ (c .before .before .if4 .left)) ∙ first-holds _ [] (ne-eqb (countIn (now (c .before .before .before .before .before .before .before .before .before .before .before .before .args .p))) (countOf (c .before .before .before .before .before .before .before .before .before .before .before .before .args .roll) (contractorIn (now (c .before .before .before .before .before .before .before .before .before .before .before .before .args .p)))) (λ e. c .if5 .taken (c .before .count-in .ensures ∙ e ∙ sym (c .before .before .before .before .count-of .ensures ∙ ap (countOf (c .before .before .before .before .before .before .before .before .before .before .before .before .args .roll)) (c .before .before .before .before .before .contractor-in .ensures))))))
+returns-4 : tie.Need-returns-4
+returns-4 c =
+    let w = c .before in
+    let s = w .before in
+    let n = s .before .before in
+    let i = n .before in
+    let t = i .before in
+    let f = t .before .before in
+    let e = f .before in
+    let a = e .before .before .args in
+    let g = sym (e .before .is-grant .ensures) ∙ not-false _ (e .if1 .left) in
+    let ok = sym (f .asked-for .ensures) ∙ ap outcomeNumber (t .enum-told .given .1) in
+    let ec = n .count-of .ensures ∙ ap (countOf (a .roll)) (i .contractor-in .ensures) in
+    let st = sym (s .before .is-in-standing .ensures) ∙ not-false _ (s .if2 .left) in
+    other-count (now (a .p)) (a .roll) (a .block) (a .right) g ok _ ec st _ (w .count-in .ensures) (c .if3 .taken)
 
 right-of-requires : tie.Need-right-of-requires
 right-of-requires c κs = search needs
 
-returns-6 : tie.Need-returns-6
-returns-6 c =
-    verdict-opens (plainTries (now (c .before .before .before .before .before .before .before .before .before .before .before .before .before .args .p)) (c .before .before .before .before .before .before .before .before .before .before .before .before .before .args .roll) (c .before .before .before .before .before .before .before .before .before .before .before .before .before .args .block) (c .before .before .before .before .before .before .before .before .before .before .before .before .before .args .right)) (contractorIn (now (c .before .before .before .before .before .before .before .before .before .before .before .before .before .args .p))) (rightIn (now (c .before .before .before .before .before .before .before .before .before .before .before .before .before .args .p))) _ _ (c .before .before .before .before .before .before .contractor-in .ensures) (c .right-of .ensures ∙ sym (c .before .before .before .before .before .before .before .if3 .left) ∙ c .before .before .before .before .before .before .before .before .right-in .ensures)
-    (first-passes _ _ (sym (c .before .before .before .before .before .before .before .before .before .before .before .before .is-grant .ensures) ∙ not-false _ (c .before .before .before .before .before .before .before .before .before .before .before .if1 .left)) ∙ first-passes _ _ (eq-eqb (blockIn (now (c .before .before .before .before .before .before .before .before .before .before .before .before .before .args .p))) (c .before .before .before .before .before .before .before .before .before .before .before .before .before .args .block) (sym (c .before .before .before .before .before .before .before .before .before .before .block-in .ensures) ∙ c .before .before .before .before .before .before .before .before .before .if2 .left)) ∙ first-passes _ _ (eq-eqb (rightIn (now (c .before .before .before .before .before .before .before .before .before .before .before .before .before .args .p))) (c .before .before .before .before .before .before .before .before .before .before .before .before .before .args .right) (sym (c .before .before .before .before .before .before .before .before .right-in .ensures) ∙ c .before .before .before .before .before .before .before .if3 .left)) ∙ first-passes _ _ (ap inStanding (sym (c .before .before .before .before .before .count-of .ensures ∙ ap (countOf (c .before .before .before .before .before .before .before .before .before .before .before .before .before .args .roll)) (c .before .before .before .before .before .before .contractor-in .ensures))) ∙ sym (c .before .before .before .before .is-in-standing .ensures) ∙ not-false _ (c .before .before .before .if4 .left)) ∙ first-passes _ [] (eq-eqb (countIn (now (c .before .before .before .before .before .before .before .before .before .before .before .before .before .args .p))) (countOf (c .before .before .before .before .before .before .before .before .before .before .before .before .before .args .roll) (contractorIn (now (c .before .before .before .before .before .before .before .before .before .before .before .before .before .args .p)))) (sym (c .before .before .count-in .ensures) ∙ c .before .if5 .left ∙ (c .before .before .before .before .before .count-of .ensures ∙ ap (countOf (c .before .before .before .before .before .before .before .before .before .before .before .before .before .args .roll)) (c .before .before .before .before .before .before .contractor-in .ensures)))) ∙ none-given [] tt)
+returns-5 : tie.Need-returns-5
+returns-5 c =
+    let x = c .before in
+    let w = x .before in
+    let s = w .before in
+    let n = s .before .before in
+    let i = n .before in
+    let t = i .before in
+    let f = t .before .before in
+    let e = f .before in
+    let a = e .before .before .args in
+    let g = sym (e .before .is-grant .ensures) ∙ not-false _ (e .if1 .left) in
+    let ok = sym (f .asked-for .ensures) ∙ ap outcomeNumber (t .enum-told .given .1) in
+    let ec = n .count-of .ensures ∙ ap (countOf (a .roll)) (i .contractor-in .ensures) in
+    let st = sym (s .before .is-in-standing .ensures) ∙ not-false _ (s .if2 .left) in
+    whole (now (a .p)) (a .roll) (a .block) (a .right) g ok _ ec st _ (w .count-in .ensures) (x .if3 .left) _ _ (i .contractor-in .ensures)
+    (c .right-of .ensures ∙ right-asked (now (a .p)) (a .roll) (a .block) (a .right) g ok _ ec)
 
 pub judge-spec : {M : Type 1} → statement M
 judge-spec =
@@ -77,16 +110,16 @@ judge-spec =
     (tie.spec
     is-grant-requires
     returns
-    block-in-requires
+    asked-for-requires
+    enum-known-asked
     returns-2
-    right-in-requires
-    returns-3
+    enum-told
     contractor-in-requires
     count-of-requires
     is-in-standing-requires
-    returns-4
+    returns-3
     count-in-requires
     cast-on-roll
-    returns-5
+    returns-4
     right-of-requires
-    returns-6)
+    returns-5)

@@ -43,7 +43,8 @@ returns-2 c =
     let a = s .before .before .args in
     let key = now (a .key) in
     let h = sym (s .is-key-length .ensures) ∙ not-false _ (t .before .if1 .left) in
-    let e = first-passes _ _ h ∙ first-holds _ [] (le-ltb (a .n) (turn (sizeOf (length key))) (omega (arith, t .turn-of-key .ensures, c .before .if2 .taken))) in
+    let l = le-ltb (a .n) (turn (sizeOf (length key))) (omega (arith, t .turn-of-key .ensures, c .before .if2 .taken)) in
+    let e = first-passes _ _ h ∙ first-holds _ [] l in
     (sym e, c .blank-holder2 .ensures ∙ answer-refused (straightTries key (a .n)) 5 (holderAt key (a .n)) blank (omega arith) e)
 
 stage-at-requires : tie.Need-stage-at-requires

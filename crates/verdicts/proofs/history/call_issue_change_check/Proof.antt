@@ -20,7 +20,8 @@ same-length-2 c = search needs
 returns : tie.Need-returns
 returns c =
     let i = c .before .before .before in
-    let a = i .before .before .before .before .before .before .before .args in
+    let known = i .before .before .before .before .before in
+    let a = known .before .before .args in
     let n = i .gordzila-issue .ensures in
     let k = kept-refused (now (a .key)) (a .rounds) (now (a .roll)) (a .contractor) (a .block) (a .right) (now (a .calls)) (a .asked) (a .access)
     (now (a .out)) _ (n .0) (c .if1 .taken) in
@@ -33,15 +34,18 @@ slice-reshare-prefix-gordzila-check : tie.Need-slice-reshare-prefix-gordzila-che
 slice-reshare-prefix-gordzila-check c =
     let t = c .before .before .before .before .before in
     let i = t .before .before .before in
-    let a = i .before .before .before .before .before .before .before .args in
+    let known = i .before .before .before .before .before in
+    let a = known .before .before .args in
     let n = i .gordzila-issue .ensures in
     call-room (now (a .key)) (a .rounds) (now (a .roll)) (a .contractor) (a .block) (a .right) (now (a .out)) (sym (n .0) ∙ t .if1 .left) _ (n .1)
 
 slice-aggregate-gordzila-check : tie.Need-slice-aggregate-gordzila-check
 slice-aggregate-gordzila-check c =
-    let t = c .before .before .before .before .before .before in
+    let h = c .before .before .before .before in
+    let t = h .before .before in
     let i = t .before .before .before in
-    let a = i .before .before .before .before .before .before .before .args in
+    let known = i .before .before .before .before .before in
+    let a = known .before .before .args in
     let n = i .gordzila-issue .ensures in
     call-twelve-taken (now (a .key)) (a .rounds) (now (a .roll)) (a .contractor) (a .block) (a .right) (now (a .out)) (sym (n .0) ∙ t .if1 .left) _ (n .1)
 

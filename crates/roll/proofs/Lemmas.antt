@@ -1,11 +1,11 @@
--- A term of each type of specs/Claims.antt.
-use mathlib.Core.Path.{_≡_, refl, ap}
+-- A term of each type of specs/Lemmas.antt.
+use mathlib.Core.Path.{_≡_, refl}
 use mathlib.Core.List.{List, [], _∷_}
 use Prim.Native.Nat.{ℕ, zero, suc, _*_, _<_}
 use native.Mathlib.Omega.{arith}
 use lib.ListN.{length, getD}
 use Rattle.roll.specs.Roll.{countFrom, byteOne, byteTwo, countsOf, countsBytes, rollOf, rollBytes}
-use Rattle.roll.specs.Claims.{BytesTellRoll, RollTellsBytes}
+use Rattle.roll.specs.Lemmas.{BytesTellRoll, RollTellsBytes}
 
 first-again : (a b : ℕ) → a < 256 → b < 256 → byteOne (countFrom a b) ≡ a
 first-again a b ha hb = omega arith

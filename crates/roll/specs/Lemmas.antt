@@ -1,4 +1,4 @@
--- What is claimed of a roll in bytes. A term of each type stands in proofs/Claims.antt.
+-- Laws of a roll in bytes that only serve proofs: no demand asks for them. A term of each type stands in proofs/Lemmas.antt.
 use mathlib.Core.Path.{_≡_}
 use mathlib.Core.List.{List}
 use Prim.Native.Nat.{ℕ, _<_}
