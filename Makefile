@@ -24,6 +24,7 @@ test:
 	$(MAKE) --no-print-directory reference
 	tools/vectors check
 	tools/known-answers
+	tools/known-answers --shams
 	tools/check-docs
 	tools/check-docs --shams
 	tools/check-edits
