@@ -1,5 +1,5 @@
--- Demand 2's "if, and only if" of an answer that a call gave, with no side condition: the contracts of this crate's functions, which make
--- the call and nothing else, say it for every key, roll, grant and number that can be handed in.
+-- Demand 2 of the answers that calls gave, with no side condition: the contracts of this crate's functions, which only make the calls, say it
+-- for every key, roll, grant and number that can be handed in.
 use mathlib.Core.Bool.{cond}
 use mathlib.Core.Path.{_≡_}
 use mathlib.Core.List.{List, [], _∷_}
