@@ -22,7 +22,8 @@ knownAnswers =
     ∷ (row (stateOf counting) 1 is (0x01 ∷ 0x04 ∷ 0x07 ∷ 0x0A ∷ []))
     ∷ (row (stateOf counting) 2 is (0x02 ∷ 0x05 ∷ 0x08 ∷ 0x0B ∷ []))
     -- document 01, cases 7 and 8
-    ∷ (bytesOf (diffused (stateOf (threes (0x010000 ∷ 0x030406 ∷ 0x000000 ∷ 0x010000 ∷ [])))) is threes (0x030406 ∷ 0x010000 ∷ 0x000000 ∷ 0x030406 ∷ []))
+    ∷ (bytesOf (diffused (stateOf (threes (0x010000 ∷ 0x030406 ∷ 0x000000 ∷ 0x010000 ∷ []))))
+    is threes (0x030406 ∷ 0x010000 ∷ 0x000000 ∷ 0x030406 ∷ []))
     -- document 01, case 11
     ∷ (bytesOf (permuted (stateOf counting)) is threes (0x000408 ∷ 0x03010B ∷ 0x060A02 ∷ 0x090705 ∷ []))
     ∷ []

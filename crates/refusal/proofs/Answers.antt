@@ -22,7 +22,8 @@ unfolding written
 put n bytes out e = sym (ap (λ (b : Bool). cond b (bytes ++ drop (length bytes) out) out) (eq-eqb n 0 e))
 
 -- an output of a call that did not refuse starts with the bytes
-pub starts : (n : ℕ) (bytes out : List ℕ) → n ≡ 0 → (length bytes ≤ length (written n bytes out)) × (take (length bytes) (written n bytes out) ≡ bytes)
+pub starts : (n : ℕ) (bytes out : List ℕ) → n ≡ 0
+    → (length bytes ≤ length (written n bytes out)) × (take (length bytes) (written n bytes out) ≡ bytes)
 starts n bytes out e =
     let w = put n bytes out e in (
       omega (arith, length-append bytes (drop (length bytes) out), ap length w),

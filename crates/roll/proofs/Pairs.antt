@@ -39,7 +39,8 @@ unfoldable pub counts-to : List ℕ → ℕ → List ℕ
 counts-to bytes i = countsOf (take (2 * i) bytes) ++ replicate (200 - i) 0
 
 module _ (bytes : List ℕ) (all : length bytes ≡ 400) where
-  pub counts-next : (i : ℕ) → i < 200 → (out : List ℕ) (v : ℕ) → out ≡ counts-to bytes i → v ≡ countFrom (getD bytes (2 * i) 0) (getD bytes (2 * i + 1) 0)
+  pub counts-next : (i : ℕ) → i < 200 → (out : List ℕ) (v : ℕ) → out ≡ counts-to bytes i
+      → v ≡ countFrom (getD bytes (2 * i) 0) (getD bytes (2 * i + 1) 0)
       → set out i v ≡ counts-to bytes (i + 1)
   unfolding counts-to
   counts-next i h out v eo ev =
@@ -100,7 +101,8 @@ module _ (counts out₀ : List ℕ) (all : length counts ≡ 200) (room : length
       let lq : length (p ++ (byteOne n ∷ [])) ≡ 2 * i + 1 = length-append p (byteOne n ∷ []) ∙ omega (arith, lp) in
       ap (λ (l : List ℕ). set (set l (2 * i) (byteOne n)) (2 * i + 1) (byteTwo n))
       (e ∙ ap (λ (l : List ℕ). p ++ l) (drop-cons out₀ (2 * i) 0 (omega arith) ∙ ap (λ (l : List ℕ). x ∷ l) (drop-cons out₀ (suc (2 * i)) 0 (omega arith))))
-      ∙ ap (λ (l : List ℕ). set l (2 * i + 1) (byteTwo n)) (set-at p x (y ∷ r) (byteOne n) (2 * i) lp ∙ sym (append-assoc p (byteOne n ∷ []) (y ∷ r)))
+      ∙ ap (λ (l : List ℕ). set l (2 * i + 1) (byteTwo n))
+      (set-at p x (y ∷ r) (byteOne n) (2 * i) lp ∙ sym (append-assoc p (byteOne n ∷ []) (y ∷ r)))
       ∙ set-at (p ++ (byteOne n ∷ [])) y r (byteTwo n) (2 * i + 1) lq
       ∙ append-assoc p (byteOne n ∷ []) (byteTwo n ∷ r)
       ∙ sym (append-assoc p (byteOne n ∷ byteTwo n ∷ []) r)

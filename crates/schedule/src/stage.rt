@@ -73,7 +73,7 @@ pub fn next_stage(t: usize, s: usize, k: &mut [u8; 24])
     linear_step(t, k);
 }
 
-// Column j of a subkey: the stage's, with the S-box on row 0.
+// Column j of a subkey: the stage's, byte i + 3j for row i, with the S-box on row 0.
 fn subkey_column(p: &[u8; 16], q: &[u8; 16], k: &[u8; 24], j: usize) -> [u8; 3]
     requires { ⌜ (now p ≡ tableP) × ((now q ≡ tableQ) × (j < 4)) ⌝ }
     ensures { λ r. ⌜ r ≡ column (λ i. subkeyByte i (cell (now (k .entry)) 0 j) (cell (now (k .entry)) 1 j) (cell (now (k .entry)) 2 j)) ⌝ }

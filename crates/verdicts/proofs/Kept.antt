@@ -28,7 +28,8 @@ pub withdraws : (n : ℕ) → (n % 2 ≡ 0 → ⊥) → changeFrom n ≡ withdra
 unfolding changeFrom
 withdraws n d = ap (λ (b : Bool). cond b (enter (n / 2)) (withdraw (n / 2))) (ne-eqb (n % 2) 0 d)
 
-after-more : (ns : List ℕ) (n : ℕ) (roll : List ℕ) → bytesAfter (changesFrom (ns ++ (n ∷ []))) roll ≡ called (changeFrom n) (bytesAfter (changesFrom ns) roll)
+after-more : (ns : List ℕ) (n : ℕ) (roll : List ℕ)
+    → bytesAfter (changesFrom (ns ++ (n ∷ []))) roll ≡ called (changeFrom n) (bytesAfter (changesFrom ns) roll)
 unfolding bytesAfter changesFrom
 after-more [] n roll = refl
 after-more (x ∷ ns) n roll = after-more ns n (called (changeFrom x) roll)

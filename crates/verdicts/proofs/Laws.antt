@@ -1,5 +1,5 @@
 -- From what the calls' contracts say to what the functions of this crate promise.
-use mathlib.Core.Path.{_≡_, refl, sym, ap, _∙_, subst⁻¹}
+use mathlib.Core.Path.{_≡_, refl, sym, ap, _∙_}
 use mathlib.Core.List.{List}
 use Prim.Native.Nat.{ℕ, _+_, _*_, _≤_, _<_}
 use native.Mathlib.Omega.{arith}
@@ -7,7 +7,7 @@ use lib.ListN.{length, take}
 use lib.Seq.{length-take-le}
 use Rattle.refusal.specs.declared.Reason.{Reason}
 use Rattle.refusal.specs.Reasons.{reasonNumber}
-use Rattle.refusal.specs.Tries.{answered}
+use Rattle.refusal.specs.Tries.{written, answered}
 use Rattle.refusal.proofs.Reasons.{reason-positive}
 use Rattle.refusal.proofs.Answers.{starts, answer-refused, answer-done}
 use Rattle.blocks.specs.Blocks.{AreBytes}
@@ -34,7 +34,8 @@ opens-for : (v : Verdict) (c r : ℕ) → verdictNumber v ≡ 0 → verdictContr
 opens-for (Opens g) c r n ec er = record { grant = g; is = refl; names-contractor = ec; names-right = er }
 opens-for (Refused x) c r n ec er = let z : ⊥ = omega (arith, reason-positive x, n) in absurd z
 
-module _ (key : List ℕ) (hk : AreBytes key) (rounds : ℕ) (grant : List ℕ) (hg : AreBytes grant) (block : ℕ) (few : block < 4294967296) (right : ℕ) where
+module _ (key : List ℕ) (hk : AreBytes key) (rounds : ℕ) (grant : List ℕ) (hg : AreBytes grant) (block : ℕ) (few : block < 4294967296)
+    (right : ℕ) where
   pub decided : (roll : Roll) (v : Verdict) → (verdictNumber v ≡ checkNumber key rounds roll grant block right)
       × ((verdictContractor v ≡ checkContractor key rounds roll grant block right) × (verdictRight v ≡ checkRight key rounds roll grant block right))
       → Decides key rounds roll grant block right v
@@ -46,7 +47,8 @@ module _ (key : List ℕ) (hk : AreBytes key) (rounds : ℕ) (grant : List ℕ) 
         opens-only-if = λ g o. w .0 (sym (e .0) ∙ ap verdictNumber o);
       }
 
-  pub call-decided : (roll : List ℕ) (code : ℕ) → code ≡ callCode key rounds roll grant block right → CallDecides key rounds roll grant block right code
+  pub call-decided : (roll : List ℕ) (code : ℕ) → code ≡ callCode key rounds roll grant block right
+      → CallDecides key rounds roll grant block right code
   unfolding CallOpensExactlyWhen CallNeverZero
   call-decided roll code e =
       let w = call-opens-exactly-when key hk rounds roll grant hg block few right in
@@ -56,22 +58,33 @@ module _ (key : List ℕ) (hk : AreBytes key) (rounds : ℕ) (grant : List ℕ) 
         never-zero = omega (arith, e, call-never-zero key rounds roll grant block right);
       }
 
+-- ---- an output that twelve bytes were written to
+began : (n : ℕ) (g out w : List ℕ) → length g ≡ 12 → n ≡ 0 → w ≡ written n g out → (12 ≤ length w) × (take 12 w ≡ g)
+began n g out w l e ew =
+    let s = starts n g out e in
+    (omega (arith, l, s .0, ap length ew), ap (λ (m : ℕ). take m w) (sym l) ∙ ap (take (length g)) ew ∙ s .1)
+
+-- w is told by what it was shown to be
+pub twelve-taken : {w x : List ℕ} → w ≡ x → 12 ≤ length w → 12 ≡ length (take 12 w)
+twelve-taken {w} e h = sym (length-take-le 12 w h)
+
+twelve : (key : List ℕ) (rounds : ℕ) (roll : Roll) (c b r : ℕ) → length (issuedGrant key rounds roll c b r) ≡ 12
+unfolding issuedGrant cipherBlock
+twelve key rounds roll c b r = refl
+
 -- ---- what was issued
 module _ (key : List ℕ) (rounds : ℕ) (roll : Roll) (contractor block right : ℕ) (out : List ℕ) where
   -- an output that was written starts with the grant
   module _ (e : issueNumber key rounds roll contractor right out ≡ 0) (w : List ℕ)
       (ew : w ≡ issueOutput key rounds roll contractor block right out) where
     begins : (12 ≤ length w) × (take 12 w ≡ issuedGrant key rounds roll contractor block right)
-    unfolding issueOutput issuedGrant cipherBlock
+    unfolding issueOutput
     begins =
-        let s = starts (issueNumber key rounds roll contractor right out) (issuedGrant key rounds roll contractor block right) out e in
-        (subst⁻¹ (λ (w : List ℕ). 12 ≤ length w) ew (s .0), ap (take 12) ew ∙ s .1)
+        let g = issuedGrant key rounds roll contractor block right in
+        began (issueNumber key rounds roll contractor right out) g out w (twelve key rounds roll contractor block right) e ew
 
     pub room : 12 ≤ length w
     room = begins .0
-
-    pub twelve-taken : 12 ≡ length (take 12 w)
-    twelve-taken = sym (length-take-le 12 w room)
 
     pub first-twelve : take 12 w ≡ issuedGrant key rounds roll contractor block right
     first-twelve = begins .1
@@ -119,13 +132,10 @@ module _ (key : List ℕ) (rounds : ℕ) (roll : List ℕ) (contractor block rig
   module _ (e : issueCallNumber key rounds roll contractor right out ≡ 0) (w : List ℕ)
       (ew : w ≡ issueCallOutput key rounds roll contractor block right out) where
     pub call-room : 12 ≤ length w
-    unfolding issueCallOutput issuedGrant cipherBlock
+    unfolding issueCallOutput
     call-room =
         let g = issuedGrant key rounds (rollOf roll) contractor block right in
-        subst⁻¹ (λ (w : List ℕ). 12 ≤ length w) ew (starts (issueCallNumber key rounds roll contractor right out) g out e .0)
-
-    pub call-twelve-taken : 12 ≡ length (take 12 w)
-    call-twelve-taken = sym (length-take-le 12 w call-room)
+        began (issueCallNumber key rounds roll contractor right out) g out w (twelve key rounds (rollOf roll) contractor block right) e ew .0
 
     pub call-opened : AreBytes key → AreBytes roll → block < 4294967296
         → (code : ℕ) → code ≡ callCode key rounds roll (take 12 w) block right → code ≡ issuedCode key rounds roll contractor right out

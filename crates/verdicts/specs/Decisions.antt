@@ -56,7 +56,8 @@ changesFrom (n ∷ ns) = changeFrom n ∷ changesFrom ns
 -- gordzila_issue answered 0, and among the calls made on the roll since then is a gordzila_withdraw of its contractor that answered 0: then the
 -- answer to whatever is asked of the grant is a refusal, a number from 1 to 999
 pub record Revoked (key : List ℕ) (rounds : ℕ) (roll : List ℕ) (contractor right : ℕ) (calls out : List ℕ) (code : ℕ) : Type 0 where
-  pub refused : issueCallNumber key rounds roll contractor right out ≡ 0 → CallWithdrawn contractor (changesFrom calls) roll → (1 ≤ code) × (code ≤ 999)
+  pub refused : issueCallNumber key rounds roll contractor right out ≡ 0 → CallWithdrawn contractor (changesFrom calls) roll
+      → (1 ≤ code) × (code ≤ 999)
 
 -- the answer itself: the number of the refusal to issue, or what gordzila_check says of the grant on the roll that the calls left
 unfoldable pub keptCode : List ℕ → ℕ → List ℕ → ℕ → ℕ → ℕ → List ℕ → ℕ → ℕ → List ℕ → ℕ

@@ -44,7 +44,8 @@ pub fn call_issue_change_check(
     ensures { λ r. ⌜ Revoked (now (key .entry)) rounds (now (roll .entry)) contractor right (now (calls .entry)) (now (out .entry)) r ⌝ }
     ensures { λ r. ⌜ r ≡ keptCode (now (key .entry)) rounds (now (roll .entry)) contractor block right (now (calls .entry)) asked access
         (now (out .entry)) ⌝ }
-    ensures { λ _. ⌜ now (roll .exit) ≡ keptRoll (now (key .entry)) rounds (now (roll .entry)) contractor right (now (calls .entry)) (now (out .entry)) ⌝ }
+    ensures { λ _. ⌜ now (roll .exit) ≡ keptRoll (now (key .entry)) rounds (now (roll .entry)) contractor right (now (calls .entry))
+        (now (out .entry)) ⌝ }
     ensures { λ _. ⌜ now (out .exit) ≡ issueCallOutput (now (key .entry)) rounds (now (roll .entry)) contractor block right (now (out .entry)) ⌝ }
 {
     let number = capi::gordzila_issue(key, rounds, roll, contractor, block, right, out);

@@ -2,7 +2,7 @@
 use mathlib.Core.Path.{sym, _∙_}
 use denote.Ref.{now}
 use Rattle.blocks.specs.Blocks.{AreBytes}
-use Rattle.verdicts.proofs.Laws.{call-refused-first, call-room, call-twelve-taken, call-opened}
+use Rattle.verdicts.proofs.Laws.{call-refused-first, call-room, twelve-taken, call-opened}
 use borrow.Author.Needs.{needs}
 use Rattle.verdicts.proofs.calls.call_issue_then_check.Statement.{statement}
 use Rattle.verdicts.proofs.calls.call_issue_then_check.Tie as tie
@@ -33,7 +33,7 @@ slice-aggregate-gordzila-check c =
     let a = i .before .before .before .before .before .args in
     let n = i .gordzila-issue .ensures in
     let e = sym (n .0) ∙ c .before .if1 .left in
-    call-twelve-taken (now (a .key)) (a .rounds) (now (a .roll)) (a .contractor) (a .block) (a .right) (now (a .out)) e _ (n .1)
+    twelve-taken (n .1) (call-room (now (a .key)) (a .rounds) (now (a .roll)) (a .contractor) (a .block) (a .right) (now (a .out)) e _ (n .1))
 
 gordzila-check-requires : tie.Need-gordzila-check-requires
 gordzila-check-requires c κs = search needs

@@ -26,7 +26,8 @@ slice-aggregate-check c =
     let i = c .before .before .before .before .before in
     let a = i .before .before .before .before .args in
     let e = sym (i .issue .ensures .0) ∙ ap outcomeNumber (c .before .enum-told .given .1) in
-    twelve-taken (now (a .key)) (a .rounds) (a .roll) (a .contractor) (a .block) (a .right) (now (a .out)) e _ (i .issue .ensures .1)
+    let w = i .issue .ensures .1 in
+    twelve-taken w (room (now (a .key)) (a .rounds) (a .roll) (a .contractor) (a .block) (a .right) (now (a .out)) e _ w)
 
 check-requires : tie.Need-check-requires
 check-requires c κs = search needs

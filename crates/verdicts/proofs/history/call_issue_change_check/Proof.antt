@@ -2,7 +2,7 @@
 use mathlib.Core.Path.{sym, _∙_}
 use denote.Ref.{now}
 use Rattle.blocks.specs.Blocks.{AreBytes}
-use Rattle.verdicts.proofs.Laws.{call-room, call-twelve-taken}
+use Rattle.verdicts.proofs.Laws.{call-room, twelve-taken}
 use Rattle.verdicts.proofs.Kept.{kept-refused, kept-checked}
 use borrow.Author.Needs.{needs}
 use Rattle.verdicts.proofs.history.call_issue_change_check.Statement.{statement}
@@ -47,7 +47,8 @@ slice-aggregate-gordzila-check c =
     let known = i .before .before .before .before .before in
     let a = known .before .before .args in
     let n = i .gordzila-issue .ensures in
-    call-twelve-taken (now (a .key)) (a .rounds) (now (a .roll)) (a .contractor) (a .block) (a .right) (now (a .out)) (sym (n .0) ∙ t .if1 .left) _ (n .1)
+    let e = sym (n .0) ∙ t .if1 .left in
+    twelve-taken (n .1) (call-room (now (a .key)) (a .rounds) (now (a .roll)) (a .contractor) (a .block) (a .right) (now (a .out)) e _ (n .1))
 
 gordzila-check-requires : tie.Need-gordzila-check-requires
 gordzila-check-requires c κs = search needs
