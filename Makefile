@@ -1,12 +1,13 @@
 # make run    prove and build the library, and run the main job: a plotter's morning
 # make test   every test; its last line is the prover's own 'N passed, 0 failed'
-# make vectors    write the stored outputs of the test programs anew, from the independent program
+# make reading    write the one page to read, target/reading.md: definitions, contracts of the public calls, claims
+# make vectors    write anew what the test programs read and have to print, from the independent program and the requirements
 # make library    prove and build the static library
 # make install    header, library and pkg-config file to PREFIX (/usr/local), after make library
 # make hosts  the static library and the programs over it, built and run
 # make bench  times, side by side with plain C, the independent program and other ciphers; no test
 
-.PHONY: run library install test vectors reference hosts bench
+.PHONY: run library install test reading vectors reference hosts bench
 
 PREFIX ?= /usr/local
 
@@ -27,12 +28,19 @@ test:
 	tools/known-answers --shams
 	tools/check-docs
 	tools/check-docs --shams
+	tools/reading --check
+	tools/reading --shams
+	tools/check-crates
+	tools/check-crates --shams
 	tools/check-edits
 	rt fmt --check
 	tools/gate
 
 reference:
 	cd reference && cargo test --release --offline --quiet
+
+reading:
+	tools/reading
 
 vectors:
 	tools/vectors write

@@ -1,7 +1,7 @@
 -- Bytes put at a place of a list, one after the other.
 use mathlib.Core.Path.{_≡_, sym, ap, ap₂, _∙_}
 use mathlib.Core.List.{List, [], _∷_, _++_, append-assoc}
-use Prim.Native.Nat.{ℕ, suc, _+_, _-_, _≤_, _<_}
+use Prim.Native.Nat.{ℕ, suc, _+_, _≤_, _<_}
 use native.Mathlib.Nat.{add-zero}
 use native.Mathlib.Omega.{arith}
 use native.Mathlib.Numerals.{add-one}
@@ -23,14 +23,18 @@ module _ (at i : ℕ) (bytes out₀ : List ℕ) (h : i < length bytes) (room : a
       let p = take at out₀ ++ take i bytes in
       let b = getD bytes i 0 in
       let r = drop (suc (at + i)) out₀ in
-      let l : length p ≡ at + i = length-append (take at out₀) (take i bytes) ∙ ap₂ _+_ (length-take-le at out₀ (omega arith)) (length-take-le i bytes (omega arith)) in
+      let la = length-take-le at out₀ (omega arith) in
+      let li = length-take-le i bytes (omega arith) in
+      let l : length p ≡ at + i = length-append (take at out₀) (take i bytes) ∙ ap₂ _+_ la li in
       let n : suc (at + i) ≡ at + (i + 1) = omega arith in
       ap (λ (x : List ℕ). set x (at + i) b)
-      (e ∙ sym (append-assoc (take at out₀) (take i bytes) (drop (at + i) out₀)) ∙ ap (λ (x : List ℕ). p ++ x) (drop-cons out₀ (at + i) 0 (omega arith)))
+      (e ∙ sym (append-assoc (take at out₀) (take i bytes) (drop (at + i) out₀))
+      ∙ ap (λ (x : List ℕ). p ++ x) (drop-cons out₀ (at + i) 0 (omega arith)))
       ∙ set-at p (getD out₀ (at + i) 0) r b (at + i) l
       ∙ append-assoc (take at out₀) (take i bytes) (b ∷ r)
       ∙ ap (λ (x : List ℕ). take at out₀ ++ x)
-      (sym (append-assoc (take i bytes) (b ∷ []) r) ∙ ap₂ _++_ (sym (ap (λ (m : ℕ). take m bytes) (add-one i) ∙ take-suc bytes i 0 h)) (ap (λ (m : ℕ). drop m out₀) n))
+      (sym (append-assoc (take i bytes) (b ∷ []) r)
+      ∙ ap₂ _++_ (sym (ap (λ (m : ℕ). take m bytes) (add-one i) ∙ take-suc bytes i 0 h)) (ap (λ (m : ℕ). drop m out₀) n))
 
 pub placed-all : (at i : ℕ) (bytes out₀ : List ℕ) → i ≡ length bytes
     → take at out₀ ++ (take i bytes ++ drop (at + i) out₀) ≡ take at out₀ ++ (bytes ++ drop (at + length bytes) out₀)

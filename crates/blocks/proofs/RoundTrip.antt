@@ -8,7 +8,8 @@ use lib.ListN.{length, getD, take, drop, length-append}
 use lib.Seq.{ext-getD, take-at, drop-append-add}
 use Rattle.layers.specs.State.{State, IsState, built}
 use Rattle.rounds.specs.Rounds.{listedFrom, AllStates}
-use Rattle.blocks.specs.Blocks.{stateOf, bytesOf, listStates, listBytes, AreBytes}
+use Rattle.blocks.specs.Blocks.{stateOf, bytesOf, listStates, listBytes}
+use Rattle.basics.specs.Bytes.{AreBytes}
 use Rattle.blocks.proofs.Lists.{length-states, state-at}
 
 -- ---- a state and its bytes
@@ -38,7 +39,8 @@ bytes-state b e = ext-getD 0 (bytesOf (stateOf b)) b (sym e)
 pub listed-snoc : {A : Type 0} (r n : ℕ) (f : ℕ → A) → listedFrom r (suc n) f ≡ listedFrom r n f ++ (f (r + n) ∷ [])
 unfolding listedFrom
 listed-snoc r zero f = ap (λ (m : ℕ). f m ∷ []) (sym (add-zero r))
-listed-snoc {A} r (suc n) f = ap {B = List A} (λ l. f r ∷ l) (listed-snoc (suc r) n f ∙ ap (λ (m : ℕ). listedFrom (suc r) n f ++ (f m ∷ [])) (omega arith))
+listed-snoc {A} r (suc n) f =
+    ap {B = List A} (λ l. f r ∷ l) (listed-snoc (suc r) n f ∙ ap (λ (m : ℕ). listedFrom (suc r) n f ++ (f m ∷ [])) (omega arith))
 
 pub length-bytes : (ks : List State) → length (listBytes ks) ≡ 12 * length ks
 unfolding listBytes

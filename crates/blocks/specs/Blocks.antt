@@ -1,7 +1,7 @@
 -- States and subkey lists as bytes: document 01, "The layers". Twelve bytes a state; a subkey list is lent as its subkeys, one after the
 -- other.
 use mathlib.Core.List.{List, [], _∷_, _++_}
-use Prim.Native.Nat.{ℕ, _+_, _*_, _/_, _<_}
+use Prim.Native.Nat.{ℕ, _+_, _*_, _/_}
 use lib.ListN.{length, getD, take, drop}
 use Rattle.layers.specs.State.{State, at, build}
 use Rattle.rounds.specs.Rounds.{listedFrom}
@@ -22,7 +22,3 @@ listStates bytes = listedFrom 0 (length bytes / 12) (λ r. stateOf (take 12 (dro
 unfoldable pub listBytes : List State → List ℕ
 listBytes [] = []
 listBytes (k ∷ ks) = bytesOf k ++ listBytes ks
-
--- every number of a list is a byte
-abbrev pub AreBytes : List ℕ → Type 0
-AreBytes xs = (i : ℕ) → getD xs i 0 < 256

@@ -1,21 +1,15 @@
 // The C interface: the calls over numbers and byte slices. A slice is a pointer and a length. Each answers 0, or the number of the reason
 // for which it refuses; the check answers with contractor and right where it does not refuse.
 
-mod check;
-mod rolls;
-mod stages;
-
-pub use check::gordzila_check;
-pub use rolls::gordzila_enter;
-pub use rolls::gordzila_issue;
-pub use rolls::gordzila_withdraw;
-pub use stages::gordzila_stage;
-pub use stages::gordzila_subkey;
 ghost use mathlib.Core.Path.{_≡_};
 ghost use Rattle.engine.specs.Engine.{engineNumber, engineOutput};
 ghost use Rattle.cipher.specs.Cipher.{cipherNumber, cipherOutput};
 ghost use Rattle.lists.specs.Lists.{prepareNumber, prepareOutput};
 ghost use Rattle.lists.specs.declared.Direction.the-variants.{Enciphering, Deciphering};
+ghost use Rattle.check_call.specs.CheckCall.{callCode};
+ghost use Rattle.roll_calls.specs.RollCalls.{enterCallNumber, enterCallRoll, withdrawCallNumber, withdrawCallRoll};
+ghost use Rattle.roll_calls.specs.RollCalls.{issueCallNumber, issueCallOutput};
+ghost use Rattle.stage_calls.specs.StageCalls.{stageCallNumber, stageCallOutput, subkeyCallOutput};
 use lists::Direction;
 
 // Enciphers one block.
@@ -61,4 +55,73 @@ pub extern "C" fn gordzila_run(list: &[u8], block: &[u8], out: &mut [u8]) -> u32
     ensures { λ _. ⌜ now (out .exit) ≡ engineOutput (now (list .entry)) (now (block .entry)) (now (out .entry)) ⌝ }
 {
     refusal::outcome_number(engine::run(list, block, out))
+}
+
+// Checks a grant for one size block and one right: the refusal number, or 1,000 times the right plus the contractor.
+#[no_mangle]
+pub extern "C" fn gordzila_check(
+    key: &[u8],
+    rounds: u32,
+    roll: &[u8],
+    grant: &[u8],
+    size_block: u32,
+    right: u32,
+) -> u32
+    ensures { λ r. ⌜ r ≡ callCode (now (key .entry)) rounds (now (roll .entry)) (now (grant .entry)) «size_block» right ⌝ }
+{
+    check_call::check(key, rounds, roll, grant, size_block, right)
+}
+
+// Enters a contractor.
+#[no_mangle]
+pub extern "C" fn gordzila_enter(roll: &mut [u8], contractor: u32) -> u32
+    ensures { λ r. ⌜ r ≡ enterCallNumber (now (roll .entry)) contractor ⌝ }
+    ensures { λ _. ⌜ now (roll .exit) ≡ enterCallRoll (now (roll .entry)) contractor ⌝ }
+{
+    roll_calls::enter(roll, contractor)
+}
+
+// Withdraws a contractor.
+#[no_mangle]
+pub extern "C" fn gordzila_withdraw(roll: &mut [u8], contractor: u32) -> u32
+    ensures { λ r. ⌜ r ≡ withdrawCallNumber (now (roll .entry)) contractor ⌝ }
+    ensures { λ _. ⌜ now (roll .exit) ≡ withdrawCallRoll (now (roll .entry)) contractor ⌝ }
+{
+    roll_calls::withdraw(roll, contractor)
+}
+
+// Issues a grant: twelve bytes to the output.
+#[no_mangle]
+pub extern "C" fn gordzila_issue(
+    key: &[u8],
+    rounds: u32,
+    roll: &[u8],
+    contractor: u32,
+    size_block: u32,
+    right: u32,
+    out: &mut [u8],
+) -> u32
+    ensures { λ r. ⌜ r ≡ issueCallNumber (now (key .entry)) rounds (now (roll .entry)) contractor «size_block» right (now (out .entry)) ⌝ }
+    ensures { λ _. ⌜ now (out .exit) ≡ issueCallOutput (now (key .entry)) rounds (now (roll .entry)) contractor «size_block» right
+        (now (out .entry)) ⌝ }
+{
+    roll_calls::issue(key, rounds, roll, contractor, size_block, right, out)
+}
+
+// A key's stage n: 24 bytes, with zeros past the key's length.
+#[no_mangle]
+pub extern "C" fn gordzila_stage(key: &[u8], n: u32, out: &mut [u8]) -> u32
+    ensures { λ r. ⌜ r ≡ stageCallNumber 24 (now (key .entry)) n (now (out .entry)) ⌝ }
+    ensures { λ _. ⌜ now (out .exit) ≡ stageCallOutput (now (key .entry)) n (now (out .entry)) ⌝ }
+{
+    stage_calls::stage(key, n, out)
+}
+
+// The subkey of a key's stage n: 12 bytes.
+#[no_mangle]
+pub extern "C" fn gordzila_subkey(key: &[u8], n: u32, out: &mut [u8]) -> u32
+    ensures { λ r. ⌜ r ≡ stageCallNumber 12 (now (key .entry)) n (now (out .entry)) ⌝ }
+    ensures { λ _. ⌜ now (out .exit) ≡ subkeyCallOutput (now (key .entry)) n (now (out .entry)) ⌝ }
+{
+    stage_calls::subkey(key, n, out)
 }

@@ -12,6 +12,7 @@ use Rattle.schedule.proofs.KnownAnswers as K
 use Rattle.lists.proofs.KnownAnswers as L
 use Rattle.holder.specs.Holder.{whole, blank}
 use Rattle.holder.proofs.KnownAnswers as H
+use Rattle.numbers.proofs.KnownAnswers as N
 use Rattle.roll.proofs.KnownAnswers as R
 use Rattle.grant.proofs.KnownAnswers as G
 use Rattle.cases.specs.KnownAnswers.{knownAnswers, orderAnswers, allKnownAnswers, KnownAnswersHold}
@@ -28,5 +29,14 @@ pub known-answers-hold : KnownAnswersHold
 unfolding KnownAnswersHold allKnownAnswers
 known-answers-hold = (
   S.known-answers,
-  (B.known-answers, (K.known-answers, (L.known-answers, (H.known-answers, (R.known-answers, (G.known-answers, (last-stages, (orders, tt)))))))),
+  (
+    B.known-answers,
+    (
+      K.known-answers,
+      (
+        L.known-answers,
+        (H.known-answers, (N.known-answers, (R.known-answers, (G.known-answers, (last-stages, (orders, tt)))))),
+      ),
+    ),
+  ),
 )

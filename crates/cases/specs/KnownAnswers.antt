@@ -17,6 +17,7 @@ use Rattle.cipher.specs.Cipher.{cipherNumber}
 use Rattle.holder.specs.Holder.{blank}
 use Rattle.holder.specs.Calls.{straightNumber, walkNumber}
 use Rattle.holder.specs.KnownAnswers as H
+use Rattle.numbers.specs.KnownAnswers as N
 use Rattle.roll.specs.KnownAnswers as R
 use Rattle.grant.specs.KnownAnswers as G
 
@@ -67,6 +68,7 @@ allKnownAnswers =
     ∷ K.knownAnswers
     ∷ L.knownAnswers
     ∷ H.knownAnswers
+    ∷ N.knownAnswers
     ∷ R.knownAnswers
     ∷ G.knownAnswers
     ∷ knownAnswers

@@ -9,5 +9,6 @@ use Rattle.engine.specs.Engine.{listLength}
 
 pub accepted : (rounds : ℕ) → 10 ≤ rounds → rounds ≤ 23 → listLength (12 * (rounds + 1)) ≡ true
 accepted rounds l h =
-    ap₂ (λ (a b : Bool). a && (b && eqb (12 * (rounds + 1) % 12) 0)) (le-leb 132 (12 * (rounds + 1)) (omega arith)) (le-leb (12 * (rounds + 1)) 288 (omega arith))
+    ap₂ (λ (a b : Bool). a && (b && eqb (12 * (rounds + 1) % 12) 0)) (le-leb 132 (12 * (rounds + 1)) (omega arith))
+    (le-leb (12 * (rounds + 1)) 288 (omega arith))
     ∙ eq-eqb (12 * (rounds + 1) % 12) 0 (omega arith)

@@ -31,7 +31,8 @@ module _ (key : List ℕ) (rounds : ℕ) (s : Settings key rounds) where
   unfolding cipherBlock
   there-and-back d e block b h =
       ap (λ (x : State). bytesOf (enciphered (listFor e key rounds) x))
-      (state-bytes (enciphered-state (listFor d key rounds) (stateOf block) (states-for key (s .length-allowed) (s .bytes) d rounds) (block-state block (b .bytes))))
+      (state-bytes (enciphered-state (listFor d key rounds) (stateOf block) (states-for key (s .length-allowed) (s .bytes) d rounds)
+      (block-state block (b .bytes))))
       ∙ ap bytesOf h ∙ bytes-state block (b .twelve)
 
 pub deciphers-what-was-enciphered : DeciphersWhatWasEnciphered
@@ -51,4 +52,5 @@ enciphers-what-was-deciphered key rounds block s b =
 pub engine-runs-prepared : EngineRunsPrepared
 unfolding EngineRunsPrepared engineBlock prepared cipherBlock
 engine-runs-prepared d key rounds block s =
-    ap (λ (l : List State). bytesOf (enciphered l (stateOf block))) (list-bytes (listFor d key rounds) (states-for key (s .length-allowed) (s .bytes) d rounds))
+    ap (λ (l : List State). bytesOf (enciphered l (stateOf block)))
+    (list-bytes (listFor d key rounds) (states-for key (s .length-allowed) (s .bytes) d rounds))

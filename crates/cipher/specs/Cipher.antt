@@ -1,24 +1,19 @@
 -- One block enciphered or deciphered: document 01, "What the store calls", "Reasons found in the input" and its order line; paper 000,
 -- sections 3.9 and 3.10.
-use mathlib.Core.List.{List, [], _∷_}
+use mathlib.Core.List.{List, _++_}
 use Prim.Native.Nat.{ℕ}
-use lib.Dec.{eqb, leb}
 use lib.ListN.{length}
-use Rattle.refusal.specs.Tries.{Try, _unless_, first, written}
+use Rattle.refusal.specs.Tries.{Try, first, written}
 use Rattle.rounds.specs.Rounds.{enciphered}
 use Rattle.blocks.specs.Blocks.{stateOf, bytesOf}
-use Rattle.sizes.specs.Sizes.{keyLength, roundsAllowed}
+use Rattle.engine.specs.Engine.{blockTries}
+use Rattle.settings.specs.Settings.{settingsTries}
 use Rattle.lists.specs.declared.Direction.{Direction}
 use Rattle.lists.specs.Lists.{listFor}
 
--- the order of refusals of enciphering and deciphering a block
+-- the order of refusals of enciphering and deciphering a block: 1, 2, then 3, 4
 abbrev pub cipherTries : List ℕ → ℕ → List ℕ → List ℕ → List Try
-cipherTries key rounds block out =
-    (1 unless keyLength (length key))
-    ∷ (2 unless roundsAllowed (length key) rounds)
-    ∷ (3 unless eqb (length block) 12)
-    ∷ (4 unless leb 12 (length out))
-    ∷ []
+cipherTries key rounds block out = settingsTries (length key) rounds ++ blockTries (length block) (length out)
 
 -- the block enciphered or deciphered
 unfoldable pub cipherBlock : Direction → List ℕ → ℕ → List ℕ → List ℕ

@@ -3,7 +3,7 @@ use mathlib.Core.Path.{_≡_}
 use mathlib.Core.List.{List}
 use Prim.Native.Nat.{ℕ}
 use lib.ListN.{length}
-use Rattle.blocks.specs.Blocks.{AreBytes}
+use Rattle.basics.specs.Bytes.{AreBytes}
 use Rattle.engine.specs.Engine.{engineBlock}
 use Rattle.lists.specs.declared.Direction.{Direction}
 use Rattle.lists.specs.declared.Direction.the-variants.{Enciphering, Deciphering}

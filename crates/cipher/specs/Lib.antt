@@ -1,2 +1,3 @@
 pub mod Cipher
+pub mod ForProver
 pub mod Claims

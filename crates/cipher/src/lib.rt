@@ -1,37 +1,44 @@
 // One block enciphered or deciphered: the subkey list is prepared in local bytes, and the engine runs over it.
 
 ghost use mathlib.Core.Path.{_≡_};
+ghost use lib.ListN.{length};
 ghost use Rattle.refusal.specs.Reasons.{outcomeNumber};
-ghost use Rattle.cipher.specs.Cipher.{cipherNumber, cipherOutput};
+ghost use Rattle.rounds.specs.Rounds.{enciphered};
+ghost use Rattle.blocks.specs.Blocks.{stateOf};
+ghost use Rattle.lists.specs.Lists.{listFor};
 ghost use Rattle.lists.specs.declared.Direction.the-variants.{Enciphering, Deciphering};
+ghost use Rattle.cipher.specs.Cipher.{cipherNumber, cipherOutput};
+ghost use Rattle.cipher.specs.ForProver.{Runnable};
 use lists::Direction;
 use lists::fill_for;
 use refusal::Outcome;
-use refusal::Reason;
+
+// A block under the key's list for a direction, for a caller that has tried key, round count and block.
+pub fn state_under(direction: Direction, key: &[u8], rounds: u32, block: &[u8]) -> [[u8; 3]; 4]
+    requires { ⌜ Runnable (length (now key)) rounds (length (now block)) ⌝ }
+    ensures { λ r. ⌜ r ≡ enciphered (listFor direction (now (key .entry)) rounds) (stateOf (now (block .entry))) ⌝ }
+{
+    let count = rounds as usize;
+    let mut list = [0u8; 288];
+    fill_for(direction, key, count, &mut list);
+    let n = 12 * (count + 1);
+    engine::encipher_state(&list[..n], blocks::state_of(block))
+}
 
 // A block under the list for a direction.
 fn run_block(direction: Direction, key: &[u8], rounds: u32, block: &[u8], out: &mut [u8]) -> Outcome
     ensures { λ r. ⌜ outcomeNumber r ≡ cipherNumber (now (key .entry)) rounds (now (block .entry)) (now (out .entry)) ⌝ }
     ensures { λ _. ⌜ now (out .exit) ≡ cipherOutput direction (now (key .entry)) rounds (now (block .entry)) (now (out .entry)) ⌝ }
 {
-    if !sizes::is_key_length(key.len()) {
-        return Outcome::Refused(Reason::KeyLength);
+    let tried = engine::try_block(
+        settings::try_settings(key.len(), rounds),
+        block.len(),
+        out.len(),
+    );
+    if refusal::is_refused(tried) {
+        return tried;
     }
-    if !sizes::is_round_count(key.len(), rounds) {
-        return Outcome::Refused(Reason::RoundCount);
-    }
-    if block.len() != 12 {
-        return Outcome::Refused(Reason::InputLength);
-    }
-    if out.len() < 12 {
-        return Outcome::Refused(Reason::OutputTooShort);
-    }
-    let count = rounds as usize;
-    let mut list = [0u8; 288];
-    fill_for(direction, key, count, &mut list);
-    let n = 12 * (count + 1);
-    let state = engine::encipher_state(&list[..n], blocks::state_of(block));
-    blocks::write_state(out, state);
+    blocks::write_state(out, state_under(direction, key, rounds, block));
     Outcome::Done
 }
 

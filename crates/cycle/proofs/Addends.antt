@@ -67,17 +67,6 @@ pub addend-last : (t s : ℕ) → turn t ≤ suc s → addend t s ≡ closingSum
 unfolding addend
 addend-last t s h = ap (λ (b : Bool). cond b (constant t (suc s)) (closingSum t)) (le-ltb (suc s) (turn t) h)
 
--- what was added before the step to stage s
-pub addend-to : (t s : ℕ) → 0 < s → s < turn t → addend t (preceding t s) ≡ constant t s
-unfolding preceding
-addend-to t zero p h = let z : ⊥ = omega arith in absurd z
-addend-to t (suc s) p h = addend-on t s h
-
-pub addend-to-first : (t s : ℕ) → s ≤ 0 → s < turn t → addend t (preceding t s) ≡ closingSum t
-unfolding preceding
-addend-to-first t zero p h = addend-last t (turn t - 1) (omega arith)
-addend-to-first t (suc s) p h = let z : ⊥ = omega arith in absurd z
-
 pub addend-stage : (t s : ℕ) → s < turn t → IsStage (2 * t) (addend t s)
 addend-stage t s h = elim (eq-or-lt-of-le h) [
   | inl e ↦ subst (IsStage (2 * t)) (sym (addend-last t s (omega arith))) (closing-stage t)

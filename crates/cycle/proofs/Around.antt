@@ -32,7 +32,8 @@ forward-undoes t s h {k} p =
     ∙ step-inverse (2 * t) p
 
 -- a step from a stage of a key gives the key's next stage, and stage 0 after the last
-pub after-key : (t : ℕ) → Sized t → {k : List ℕ} → IsStage (2 * t) k → (s : ℕ) → s < turn t → stageAfter t s (stage t k s) ≡ stage t k (following t s)
+pub after-key : (t : ℕ) → Sized t → {k : List ℕ} → IsStage (2 * t) k → (s : ℕ) → s < turn t
+    → stageAfter t s (stage t k s) ≡ stage t k (following t s)
 unfolding stageAfter stage
 after-key t z {k} p s h = elim (eq-or-lt-of-le h) [
   | inl e ↦
@@ -47,7 +48,8 @@ after-key t z {k} p s h = elim (eq-or-lt-of-le h) [
 ]
 
 -- and a step back gives the stage before it
-pub before-key : (t : ℕ) → Sized t → {k : List ℕ} → IsStage (2 * t) k → (s : ℕ) → s < turn t → stageBefore t s (stage t k s) ≡ stage t k (preceding t s)
+pub before-key : (t : ℕ) → Sized t → {k : List ℕ} → IsStage (2 * t) k → (s : ℕ) → s < turn t
+    → stageBefore t s (stage t k s) ≡ stage t k (preceding t s)
 before-key t z {k} p s h =
     let b = preceding-below t s h in
     ap₂ (stageBefore t) (sym (on-back t s h)) (ap (stage t k) (sym (on-back t s h)) ∙ sym (after-key t z p (preceding t s) b))
@@ -64,7 +66,8 @@ pub record Of (t s : ℕ) (k : List ℕ) : Type 0 where
   pub is : IsStage (2 * t) key
   pub gives : stage t key s ≡ k
 
-from-before : (t s : ℕ) → suc s < turn t → {k : List ℕ} → IsStage (2 * t) k → (key : List ℕ) → stage t key s ≡ stageBefore t (suc s) k → stage t key (suc s) ≡ k
+from-before : (t s : ℕ) → suc s < turn t → {k : List ℕ} → IsStage (2 * t) k → (key : List ℕ)
+    → stage t key s ≡ stageBefore t (suc s) k → stage t key (suc s) ≡ k
 unfolding stage
 from-before t s h {k} p key e =
     ap (λ (x : List ℕ). linearStep (2 * t) (plus (2 * t) x (constant t (suc s)))) e

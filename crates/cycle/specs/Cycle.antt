@@ -1,9 +1,8 @@
 -- The stages as a cycle: document 01, "Key stages". A step forward goes from stage s to s + 1, and from 6t - 1 to 0 by the closing rule;
 -- a step back undoes it.
 use mathlib.Core.Bool.{cond}
-use mathlib.Core.Path.{_≡_}
 use mathlib.Core.List.{List}
-use Prim.Native.Nat.{ℕ, zero, suc, _-_, _*_, _<_}
+use Prim.Native.Nat.{ℕ, zero, suc, _-_, _*_}
 use lib.Dec.{ltb}
 use Rattle.sizes.specs.Sizes.{turn}
 use Rattle.schedule.specs.Columns.{plus}
@@ -29,8 +28,3 @@ stageAfter t s k = linearStep (2 * t) (plus (2 * t) k (addend t s))
 -- the stage before stage s, which is k
 unfoldable pub stageBefore : ℕ → ℕ → List ℕ → List ℕ
 stageBefore t s k = plus (2 * t) (inverseStep (2 * t) k) (addend t (preceding t s))
-
--- what the code knows of a column r that it computed: it is j, and one of n
-pub record Place (r j n : ℕ) : Type 0 where
-  pub is : r ≡ j
-  pub below : r < n

@@ -9,14 +9,15 @@ use lib.ListN.{length, take, drop, List·getD-eq-default, length-take}
 use lib.Seq.{getD-take, getD-drop}
 use lib.Dec.{lit<}
 use borrow.Author.Tests.{eqb-true, eq-eqb, le-leb}
-use Rattle.refusal.proofs.Tests.{below-or-not}
+use Rattle.basics.proofs.Tests.{below-or-not}
 use Rattle.refusal.proofs.Tries.{none-given, none-holds}
 use Rattle.refusal.proofs.Answers.{put, starts}
 use Rattle.layers.specs.State.{State}
 use Rattle.rounds.specs.Rounds.{turned, enciphered, AllStates}
 use Rattle.rounds.proofs.Turned.{turned-states}
 use Rattle.rounds.proofs.Restored.{restored, enciphered-state}
-use Rattle.blocks.specs.Blocks.{stateOf, bytesOf, listStates, AreBytes}
+use Rattle.blocks.specs.Blocks.{stateOf, bytesOf, listStates}
+use Rattle.basics.specs.Bytes.{AreBytes}
 use Rattle.blocks.proofs.Lists.{length-states}
 use Rattle.blocks.proofs.RoundTrip.{state-bytes, bytes-state, length-bytes, list-bytes, block-state, listed-states}
 use Rattle.engine.specs.Engine.{listLength, engineTries, engineBlock, engineNumber, engineOutput}

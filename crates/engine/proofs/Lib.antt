@@ -1,2 +1,3 @@
+pub mod Blocks
 pub mod Lists
 pub mod Claims

@@ -1,30 +1,23 @@
 -- Lent lists: their lengths, their subkeys, and the rounds one subkey after the other.
-use mathlib.Core.Path.{_≡_, refl, sym, ap, ap₂, _∙_}
-use mathlib.Core.Bool.{Bool, true, false, _&&_}
+use mathlib.Core.Path.{_≡_, refl, sym, ap, _∙_}
+use mathlib.Core.Bool.{true, _&&_}
 use mathlib.Core.List.{List, [], _∷_}
-use Prim.Native.Nat.{ℕ, suc, _%_, _≤_, _<_}
+use Prim.Native.Nat.{ℕ, suc, _+_, _-_, _*_, _/_, _%_, _≤_, _<_}
 use native.Mathlib.Omega.{arith}
 use lib.Dec.{leb, eqb}
-use lib.ListN.{length, getD, drop}
+use lib.ListN.{length, getD, take, drop}
 use lib.Seq.{drop-cons, drop-length}
-use borrow.Author.Tests.{le-leb, lt-leb, leb-true, eqb-true}
-use Rattle.refusal.proofs.Tests.{and-first, and-second}
+use borrow.Author.Tests.{leb-true, eqb-true}
+use Rattle.basics.proofs.Tests.{and-first, and-second}
 use Rattle.layers.specs.State.{State}
 use Rattle.layers.specs.Layers.{added}
 use Rattle.rounds.specs.Rounds.{round, lastRound, rounds, enciphered}
+use Rattle.blocks.specs.Blocks.{stateOf, listStates}
+use Rattle.blocks.proofs.Lists.{state-at}
 use Rattle.engine.specs.Engine.{listLength}
 
 -- ---- the test of a list's length
-pub too-short : (n : ℕ) → n < 132 → false ≡ listLength n
-too-short n h = sym (ap (λ (b : Bool). b && (leb n 288 && eqb (n % 12) 0)) (lt-leb 132 n h))
-
-pub too-long : (n : ℕ) → 132 ≤ n → 288 < n → false ≡ listLength n
-too-long n l h = sym (ap₂ (λ (a b : Bool). a && (b && eqb (n % 12) 0)) (le-leb 132 n l) (lt-leb n 288 h))
-
-pub within : (n : ℕ) → 132 ≤ n → n ≤ 288 → eqb (n % 12) 0 ≡ listLength n
-within n l h = sym (ap₂ (λ (a b : Bool). a && (b && eqb (n % 12) 0)) (le-leb 132 n l) (le-leb n 288 h))
-
--- what a passed test says
+-- what it says where it is passed
 pub record Whole (n : ℕ) : Type 0 where
   pub least : 132 ≤ n
   pub most : n ≤ 288
@@ -38,6 +31,13 @@ whole n e =
       most = leb-true n 288 (and-first (leb n 288) (eqb (n % 12) 0) later);
       twelves = eqb-true (n % 12) 0 (and-second (leb n 288) (eqb (n % 12) 0) later);
     }
+
+-- ---- a subkey, as the code reads it
+pub subkey-read : (list : List ℕ) (r : ℕ) (k : State) → r < length list / 12 → k ≡ stateOf (take (12 * r + 12 - 12 * r) (drop (12 * r) list))
+    → k ≡ getD (listStates list) r []
+subkey-read list r k h e =
+    let z : 12 * r + 12 - 12 * r ≡ 12 = omega arith in
+    e ∙ ap (λ (m : ℕ). stateOf (take m (drop (12 * r) list))) z ∙ sym (state-at list r h)
 
 -- ---- the rounds from subkey r on
 module _ (ks : List State) (r : ℕ) (a : State) where

@@ -12,13 +12,13 @@ use Rattle.rounds.specs.Rounds.{enciphered}
 abbrev pub listLength : ℕ → Bool
 listLength n = leb 132 n && (leb n 288 && eqb (n % 12) 0)
 
--- the order of the engine's refusals
+-- what every call on one block tries last: the block's length, and the room for the block that is written
+abbrev pub blockTries : ℕ → ℕ → List Try
+blockTries block room = (3 unless eqb block 12) ∷ (4 unless leb 12 room) ∷ []
+
+-- the order of the engine's refusals: 5, 3, 4
 abbrev pub engineTries : List ℕ → List ℕ → List ℕ → List Try
-engineTries list block out =
-    (5 unless listLength (length list))
-    ∷ (3 unless eqb (length block) 12)
-    ∷ (4 unless leb 12 (length out))
-    ∷ []
+engineTries list block out = (5 unless listLength (length list)) ∷ blockTries (length block) (length out)
 
 -- the block that the engine gives
 unfoldable pub engineBlock : List ℕ → List ℕ → List ℕ

@@ -1,6 +1,6 @@
 -- The laws of addition, on all numbers.
 use mathlib.Core.Path.{_≡_, refl, sym, ap, ap₂, _∙_}
-use Prim.Native.Nat.{ℕ, zero, suc, _+_, _-_, _*_, _/_, _%_, _^_, _<_}
+use Prim.Native.Nat.{ℕ, zero, suc, _+_, _*_, _/_, _%_, _^_, _<_}
 use native.Mathlib.Nat.{le-of-suc-le-suc, not-suc-le-zero, mod-lt, zero-lt-suc, zero-mul, one-mul, add-zero}
 use native.Mathlib.Omega.{arith}
 use lib.Arith.{bin-ind, digits-mod}
@@ -83,4 +83,6 @@ scale-right b c x hx =
 
 -- a power of two times a number
 pub shifted : (k b c : ℕ) → (b ⊕ c) * 2 ^ k ≡ (b * 2 ^ k) ⊕ (c * 2 ^ k)
-shifted k b c = sym (add-zero (bitXor b c * 2 ^ k)) ∙ sym (xor-block k b c 0 0 (pow-pos k) (pow-pos k)) ∙ ap₂ bitXor (add-zero (b * 2 ^ k)) (add-zero (c * 2 ^ k))
+shifted k b c =
+    sym (add-zero (bitXor b c * 2 ^ k)) ∙ sym (xor-block k b c 0 0 (pow-pos k) (pow-pos k))
+    ∙ ap₂ bitXor (add-zero (b * 2 ^ k)) (add-zero (c * 2 ^ k))

@@ -1,7 +1,7 @@
 -- Linear maps: those that keep sums. The product and the remainder are linear on all numbers, so two of them that agree at the
 -- powers of two agree at every byte.
 use mathlib.Core.Path.{_≡_, refl, sym, ap, ap₂, _∙_}
-use Prim.Native.Nat.{ℕ, zero, suc, _+_, _-_, _*_, _/_, _%_, _^_, _<_}
+use Prim.Native.Nat.{ℕ, zero, suc, _+_, _*_, _/_, _%_, _^_, _<_}
 use native.Mathlib.Nat.{mod-lt, zero-mul, one-mul, pow-suc, div-lt-iff-lt-mul}
 use native.Mathlib.Omega.{arith}
 use mathlib.Core.Bool.{Bool}
@@ -59,7 +59,8 @@ parts : (n x : ℕ) → x ≡ (x / 2 ^ n * 2 ^ n) ⊕ (x % 2 ^ n)
 parts n x = sym (split x n) ∙ sym (xor-shifted (x / 2 ^ n) n (x % 2 ^ n) (mod-lt x (pow-pos n)))
 
 -- two linear maps that agree at the first n powers of two agree below the next
-pub agree : (f g : ℕ → ℕ) → Linear f → Linear g → (n : ℕ) → ((k : ℕ) → k < n → f (2 ^ k) ≡ g (2 ^ k)) → (x : ℕ) → x < 2 ^ n → f x ≡ g x
+pub agree : (f g : ℕ → ℕ) → Linear f → Linear g
+    → (n : ℕ) → ((k : ℕ) → k < n → f (2 ^ k) ≡ g (2 ^ k)) → (x : ℕ) → x < 2 ^ n → f x ≡ g x
 agree f g lf lg zero h x hx = ap f (lt-one hx) ∙ at-zero f lf ∙ sym (at-zero g lg) ∙ ap g (sym (lt-one hx))
 agree f g lf lg (suc n) h x hx =
     ap f (parts n x) ∙ lf (x / 2 ^ n * 2 ^ n) (x % 2 ^ n)

@@ -1,7 +1,7 @@
 -- The laws of multiplication: each side is linear in each number, so a test at the powers of two shows them for every byte.
 use mathlib.Core.Path.{_≡_, refl, ap, _∙_, subst}
 use mathlib.Core.Bool.{Bool}
-use Prim.Native.Nat.{ℕ, _-_, _%_, _^_, _<_}
+use Prim.Native.Nat.{ℕ, _%_, _^_, _<_}
 use native.Mathlib.Nat.{mod-lt, zero-lt-suc}
 use lib.Dec.{T, eqb, eqb→eq}
 use lib.Bits.{xor-mod}
@@ -9,7 +9,9 @@ use Rattle.field.specs.Field.{product, reduced, times}
 use Rattle.field.proofs.Computed.{all, passed}
 use Rattle.field.proofs.Linear.{Linear, agree, same, agree-bytes, at-zero, times-left, times-right}
 
-module _ (f g : ℕ → ℕ → ℕ) (fl : (b : ℕ) → Linear (λ a. f a b)) (fr : (a : ℕ) → Linear (f a)) (gl : (b : ℕ) → Linear (λ a. g a b)) (gr : (a : ℕ) → Linear (g a)) where
+module _ (f g : ℕ → ℕ → ℕ)
+    (fl : (b : ℕ) → Linear (λ a. f a b)) (fr : (a : ℕ) → Linear (f a))
+    (gl : (b : ℕ) → Linear (λ a. g a b)) (gr : (a : ℕ) → Linear (g a)) where
   abbrev pub Test₂ : Bool
   Test₂ = all 8 (λ i. all 8 (λ j. eqb (f (2 ^ i) (2 ^ j)) (g (2 ^ i) (2 ^ j))))
 
@@ -48,8 +50,9 @@ assoc-test = tt
 
 assoc-powers : (i j k : ℕ) → i < 8 → j < 8 → k < 8 → times (2 ^ i) (times (2 ^ j) (2 ^ k)) ≡ times (times (2 ^ i) (2 ^ j)) (2 ^ k)
 unfolding assoc-at
-assoc-powers i j k hi hj hk = eqb→eq _ _
-    (passed 8 (λ k. assoc-at i j k) (passed 8 (λ j. all 8 (λ k. assoc-at i j k)) (passed 8 (λ i. all 8 (λ j. all 8 (λ k. assoc-at i j k))) assoc-test i hi) j hj) k hk)
+assoc-powers i j k hi hj hk =
+    let first = passed 8 (λ i. all 8 (λ j. all 8 (λ k. assoc-at i j k))) assoc-test i hi in
+    eqb→eq _ _ (passed 8 (λ k. assoc-at i j k) (passed 8 (λ j. all 8 (λ k. assoc-at i j k)) first j hj) k hk)
 
 pub times-assoc : (a b x : ℕ) → a < 256 → b < 256 → x < 256 → times a (times b x) ≡ times (times a b) x
 times-assoc a b x ha hb hx =

@@ -3,9 +3,9 @@ use mathlib.Core.Path.{refl}
 use Rattle.basics.specs.Cases.{Hold}
 use Rattle.refusal.specs.Tries.{first}
 use Rattle.roll.specs.Roll.{emptyRoll, countOf, inStanding}
-use Rattle.grant.specs.Grants.{plainGrant, contractorIn, countIn, blockIn, isMarked, isGrant}
+use Rattle.grant.specs.Grants.{plainGrant, contractorIn, countIn, sizeBlockIn, isMarked, isGrant}
 use Rattle.grant.specs.KnownAnswers.{knownAnswers}
 
 pub known-answers : Hold knownAnswers
-unfolding knownAnswers plainGrant contractorIn countIn blockIn isMarked isGrant first emptyRoll countOf inStanding
+unfolding knownAnswers plainGrant contractorIn countIn sizeBlockIn isMarked isGrant first emptyRoll countOf inStanding
 known-answers = (refl, (refl, (refl, (refl, (refl, (refl, (refl, (refl, (refl, (refl, (refl, (refl, (refl, (refl, (refl, (refl, (refl, tt)))))))))))))))))

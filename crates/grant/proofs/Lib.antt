@@ -1,5 +1,3 @@
 pub mod Tests
 pub mod Verdicts
-pub mod Ciphers
 pub mod KnownAnswers
-pub mod Judged

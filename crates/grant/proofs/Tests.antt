@@ -5,16 +5,12 @@ use mathlib.Core.List.{List}
 use Prim.Native.Nat.{ℕ, _<_}
 use native.Mathlib.Omega.{arith}
 use lib.Dec.{eqb}
-use lib.ListN.{getD}
-use borrow.Author.Tests.{eqb-true, eq-eqb, ne-eqb}
-use Rattle.refusal.proofs.Tests.{and-first, and-second}
+use borrow.Author.Tests.{eqb-true, ne-eqb}
+use Rattle.basics.proofs.Tests.{and-first, and-second}
 use Rattle.roll.specs.Roll.{isContractor}
 use Rattle.grant.specs.Grants.{isRight, contractorIn, rightIn, isMarked, isGrant}
 
 -- ---- rights
-pub right-one : (r : ℕ) → r ≡ 1 → true ≡ isRight r
-right-one r e = sym (ap isRight e)
-
 pub right-else : (r : ℕ) → (r ≡ 1 → ⊥) → eqb r 2 ≡ isRight r
 right-else r h = sym (ap (λ (b : Bool). b || eqb r 2) (ne-eqb r 1 h))
 
@@ -31,31 +27,7 @@ right-small r e =
 
 -- ---- the mark
 module _ (p : List ℕ) where
-  pub first-differs : (getD p 9 0 ≡ 0x47 → ⊥) → false ≡ isMarked p
-  unfolding isMarked
-  first-differs h = sym (ap (λ (b : Bool). b && (eqb (getD p 10 0) 0x52 && eqb (getD p 11 0) 0x44)) (ne-eqb (getD p 9 0) 0x47 h))
-
-  pub second-differs : getD p 9 0 ≡ 0x47 → (getD p 10 0 ≡ 0x52 → ⊥) → false ≡ isMarked p
-  unfolding isMarked
-  second-differs e h = sym (rw (eq-eqb (getD p 9 0) 0x47 e, ne-eqb (getD p 10 0) 0x52 h) refl)
-
-  pub third-tells : getD p 9 0 ≡ 0x47 → getD p 10 0 ≡ 0x52 → eqb (getD p 11 0) 0x44 ≡ isMarked p
-  unfolding isMarked
-  third-tells e h = sym (rw (eq-eqb (getD p 9 0) 0x47 e, eq-eqb (getD p 10 0) 0x52 h) refl)
-
   -- ---- whole grants
-  pub not-marked : isMarked p ≡ false → false ≡ isGrant p
-  unfolding isGrant
-  not-marked e = sym (ap (λ (b : Bool). b && (isContractor (contractorIn p) && isRight (rightIn p))) e)
-
-  pub not-contractor : isMarked p ≡ true → isContractor (contractorIn p) ≡ false → false ≡ isGrant p
-  unfolding isGrant
-  not-contractor e h = sym (rw (e, h) refl)
-
-  pub right-tells : isMarked p ≡ true → isContractor (contractorIn p) ≡ true → isRight (rightIn p) ≡ isGrant p
-  unfolding isGrant
-  right-tells e h = sym (rw (e, h) refl)
-
   pub record Whole : Type 0 where
     pub marked : isMarked p ≡ true
     pub contractor : isContractor (contractorIn p) ≡ true

@@ -1,10 +1,11 @@
 -- Grants and verdicts: document 01, "Roll and grant". A grant's plain bytes name contractor, count, size block and right.
 use mathlib.Core.Bool.{Bool, _&&_, _||_}
 use mathlib.Core.List.{List, [], _∷_, _++_}
-use Prim.Native.Nat.{ℕ, _+_, _*_, _/_, _%_}
+use Prim.Native.Nat.{ℕ}
 use lib.Dec.{eqb}
 use lib.ListN.{getD}
 use Rattle.refusal.specs.Reasons.{reasonNumber}
+use Rattle.numbers.specs.Numbers.{twoFrom, fourFrom, twoBytes, fourBytes}
 use Rattle.roll.specs.Roll.{isContractor}
 use Rattle.grant.specs.declared.Right.{Right}
 use Rattle.grant.specs.declared.Right.the-variants.{Reading, Overwriting}
@@ -20,27 +21,21 @@ rightNumber Overwriting = 2
 abbrev pub isRight : ℕ → Bool
 isRight r = eqb r 1 || eqb r 2
 
--- ---- plain bytes, big end first
-abbrev pub twoBytes : ℕ → List ℕ
-twoBytes n = n / 256 % 256 ∷ n % 256 ∷ []
-
-abbrev pub fourBytes : ℕ → List ℕ
-fourBytes n = n / 16777216 % 256 ∷ n / 65536 % 256 ∷ n / 256 % 256 ∷ n % 256 ∷ []
-
+-- ---- plain bytes, numbers big end first
 -- 2 contractor, 2 count, 4 size block number, 1 right, then 47 52 44
 unfoldable pub plainGrant : ℕ → ℕ → ℕ → ℕ → List ℕ
-plainGrant contractor count block right =
-    twoBytes contractor ++ (twoBytes count ++ (fourBytes block ++ (right ∷ 0x47 ∷ 0x52 ∷ 0x44 ∷ [])))
+plainGrant contractor count size-block right =
+    twoBytes contractor ++ (twoBytes count ++ (fourBytes size-block ++ (right ∷ 0x47 ∷ 0x52 ∷ 0x44 ∷ [])))
 
 -- what twelve plain bytes name
 unfoldable pub contractorIn : List ℕ → ℕ
-contractorIn p = 256 * getD p 0 0 + getD p 1 0
+contractorIn p = twoFrom (getD p 0 0) (getD p 1 0)
 
 unfoldable pub countIn : List ℕ → ℕ
-countIn p = 256 * getD p 2 0 + getD p 3 0
+countIn p = twoFrom (getD p 2 0) (getD p 3 0)
 
-unfoldable pub blockIn : List ℕ → ℕ
-blockIn p = 16777216 * getD p 4 0 + (65536 * getD p 5 0 + (256 * getD p 6 0 + getD p 7 0))
+unfoldable pub sizeBlockIn : List ℕ → ℕ
+sizeBlockIn p = fourFrom (getD p 4 0) (getD p 5 0) (getD p 6 0) (getD p 7 0)
 
 abbrev pub rightIn : List ℕ → ℕ
 rightIn p = getD p 8 0

@@ -1,3 +1,4 @@
 pub mod Grants
 pub mod Calls
+pub mod ForProver
 pub mod KnownAnswers

@@ -1,10 +1,21 @@
 // Grants: issued to a contractor for a size block and a right, and checked before the block is opened.
 
-mod calls;
+mod checking;
+mod issuing;
 mod plain;
 
-pub use calls::check;
-pub use calls::issue;
+pub use checking::check;
+pub use checking::judge;
+pub use checking::open;
+pub use checking::open_prepared;
+pub use checking::try_asked;
+pub use checking::try_input;
+pub use checking::try_standing;
+pub use issuing::issue;
+pub use issuing::try_issue;
+pub use issuing::write_grant;
+pub use plain::contractor_in;
+pub use plain::is_grant;
 use refusal::Reason;
 
 // What a grant allows.

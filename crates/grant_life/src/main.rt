@@ -11,7 +11,7 @@ use roll::Roll;
 pub struct Life {
     pub rounds: u32,
     pub contractor: u32,
-    pub block: u32,
+    pub size_block: u32,
     pub right: u32,
 }
 
@@ -77,7 +77,7 @@ fn issue_line(key: &[u8], l: Life, roll: Roll) -> [u8; 12] {
         l.rounds,
         roll,
         l.contractor,
-        l.block,
+        l.size_block,
         l.right,
         &mut out,
     );
@@ -92,17 +92,17 @@ fn issue_line(key: &[u8], l: Life, roll: Roll) -> [u8; 12] {
 
 fn check_line(key: &[u8], l: Life, roll: Roll, grant: [u8; 12]) {
     printing::word(b"check");
-    verdict(grant::check(key, l.rounds, roll, &grant, l.block, l.right));
+    verdict(grant::check(key, l.rounds, roll, &grant, l.size_block, l.right));
 }
 
 // The same grant for the next size block, and for the other right.
 fn other_lines(key: &[u8], l: Life, roll: Roll, grant: [u8; 12]) {
-    let next = ((l.block as u64 + 1) % 4294967296) as u32;
+    let next = ((l.size_block as u64 + 1) % 4294967296) as u32;
     let other = if l.right == 1 { 2 } else { 1 };
     printing::word(b"check");
     verdict(grant::check(key, l.rounds, roll, &grant, next, l.right));
     printing::word(b"check");
-    verdict(grant::check(key, l.rounds, roll, &grant, l.block, other));
+    verdict(grant::check(key, l.rounds, roll, &grant, l.size_block, other));
 }
 
 // A grant with one bit of one byte changed.
@@ -112,7 +112,7 @@ fn damaged_line(key: &[u8], l: Life, roll: Roll, grant: [u8; 12], at: usize) {
     bytes[p] = bytes[p] ^ 1;
     printing::word(b"damaged");
     number(p as u32);
-    verdict(grant::check(key, l.rounds, roll, &bytes, l.block, l.right));
+    verdict(grant::check(key, l.rounds, roll, &bytes, l.size_block, l.right));
 }
 
 fn damaged_lines(key: &[u8], l: Life, roll: Roll, grant: [u8; 12]) {
@@ -128,7 +128,7 @@ fn head_line(key: &[u8], l: Life) {
     printing::hex_bytes(key);
     number(l.rounds);
     number(l.contractor);
-    number(l.block);
+    number(l.size_block);
     number(l.right);
     printing::newline();
 }
@@ -164,7 +164,7 @@ fn one_life(x: u64, key: &mut [u8], rounds: u32) -> u64 {
     let mut drawn = [0u8; 6];
     let x1 = printing::draw(x, key);
     let x2 = printing::draw(x1, &mut drawn);
-    let block = number_of(drawn[1], drawn[2], drawn[3], drawn[4]);
+    let size_block = number_of(drawn[1], drawn[2], drawn[3], drawn[4]);
     let who = number_of(0, 0, 0, drawn[0]);
     let what = number_of(0, 0, 0, drawn[5]);
     life_lines(
@@ -172,7 +172,7 @@ fn one_life(x: u64, key: &mut [u8], rounds: u32) -> u64 {
         Life {
             rounds,
             contractor: 1 + who % 200,
-            block,
+            size_block,
             right: 1 + what % 2,
         },
     );

@@ -2,8 +2,10 @@
 use mathlib.Core.Path.{refl, sym, ap, _∙_}
 use Rattle.refusal.proofs.Answers.{answer-refused}
 use Rattle.roll.specs.Roll.{countOf, inStanding, counted, enterTries, enterNumber, enteredRoll, withdrawTries, withdrawNumber, withdrawnRoll}
-use Rattle.histories.specs.Claims.{CountsNeverFall, OthersCountsStay, RefusedChangesNothing, CallsCount, NothingWraps, NobodyComesBack, WithdrawalCounts, WithdrawsCounts}
-use Rattle.histories.proofs.Counts.{entering, withdrawing, after-grows, changed-other, entered-own, withdrawn-own, entered-stands, withdrawn-out, spent-out, after-roll, empty-roll, counted-up, asked-counts, spent-stays, not-back}
+use Rattle.histories.specs.Claims.{CountsNeverFall, OthersCountsStay, RefusedChangesNothing, CallsCount}
+use Rattle.histories.specs.Claims.{NothingWraps, NobodyComesBack, WithdrawalCounts, WithdrawsCounts}
+use Rattle.histories.proofs.Counts.{entering, withdrawing, after-grows, changed-other, entered-own, withdrawn-own, entered-stands}
+use Rattle.histories.proofs.Counts.{withdrawn-out, spent-out, after-roll, empty-roll, counted-up, asked-counts, spent-stays, not-back}
 
 pub counts-never-fall : CountsNeverFall
 unfolding CountsNeverFall
@@ -11,13 +13,13 @@ counts-never-fall = after-grows
 
 pub others-counts-stay : OthersCountsStay
 unfolding OthersCountsStay
-others-counts-stay = changed-other
+others-counts-stay h roll d hd n = changed-other h roll d n
 
 pub refused-changes-nothing : RefusedChangesNothing
 unfolding RefusedChangesNothing enteredRoll withdrawnRoll
 refused-changes-nothing roll c = record {
-  enter = λ h. sym (answer-refused (enterTries roll c) (enterNumber roll c) (counted roll c) roll h refl);
-  withdraw = λ h. sym (answer-refused (withdrawTries roll c) (withdrawNumber roll c) (counted roll c) roll h refl);
+  enter = λ h. sym (answer-refused (enterTries c (countOf roll c)) (enterNumber roll c) (counted roll c) roll h refl);
+  withdraw = λ h. sym (answer-refused (withdrawTries c (countOf roll c)) (withdrawNumber roll c) (counted roll c) roll h refl);
 }
 
 pub calls-count : CallsCount

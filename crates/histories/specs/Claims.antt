@@ -5,7 +5,7 @@ use mathlib.Core.List.{List}
 use Prim.Native.Nat.{ℕ, _+_, _≤_, _<_}
 use Rattle.roll.specs.declared.Roll.{Roll}
 use Rattle.roll.specs.Roll.{emptyRoll, isContractor, countOf, inStanding, enterNumber, enteredRoll, withdrawNumber, withdrawnRoll}
-use Rattle.histories.specs.Histories.{Change, changeOf, changed, rollAfter, Withdrawn, Withdraws, IsRoll}
+use Rattle.histories.specs.Histories.{Change, contractorOf, changed, rollAfter, Withdrawn, Withdraws, IsRoll}
 
 -- counts never fall
 unfoldable pub CountsNeverFall : Type 0
@@ -13,7 +13,8 @@ CountsNeverFall = (hs : List Change) (roll : Roll) (c : ℕ) → countOf roll c 
 
 -- a call changes no other contractor's count
 unfoldable pub OthersCountsStay : Type 0
-OthersCountsStay = (h : Change) (roll : Roll) (c : ℕ) → isContractor c ≡ true → (c ≡ changeOf h → ⊥) → countOf (changed h roll) c ≡ countOf roll c
+OthersCountsStay = (h : Change) (roll : Roll) (c : ℕ) → isContractor c ≡ true → (c ≡ contractorOf h → ⊥)
+    → countOf (changed h roll) c ≡ countOf roll c
 
 -- a refused call changes nothing
 pub record RefusedKeeps (roll : Roll) (c : ℕ) : Type 0 where
@@ -26,7 +27,8 @@ RefusedChangesNothing = (roll : Roll) (c : ℕ) → RefusedKeeps roll c
 -- a call that is not refused adds 1: who is entered is then in standing, who is withdrawn is not
 pub record Counts (roll : Roll) (c : ℕ) : Type 0 where
   pub entered : enterNumber roll c ≡ 0 → (countOf (enteredRoll roll c) c ≡ countOf roll c + 1) × (inStanding (countOf (enteredRoll roll c) c) ≡ true)
-  pub withdrawn : withdrawNumber roll c ≡ 0 → (countOf (withdrawnRoll roll c) c ≡ countOf roll c + 1) × (inStanding (countOf (withdrawnRoll roll c) c) ≡ false)
+  pub withdrawn : withdrawNumber roll c ≡ 0
+      → (countOf (withdrawnRoll roll c) c ≡ countOf roll c + 1) × (inStanding (countOf (withdrawnRoll roll c) c) ≡ false)
 
 unfoldable pub CallsCount : Type 0
 CallsCount = (roll : Roll) → IsRoll roll → (c : ℕ) → Counts roll c

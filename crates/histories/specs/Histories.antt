@@ -10,9 +10,9 @@ use Rattle.roll.specs.Roll.{enteredRoll, withdrawNumber, withdrawnRoll}
 pub data Change : Type 0 where
   enter withdraw : ℕ → Change
 
-abbrev pub changeOf : Change → ℕ
-changeOf (enter c) = c
-changeOf (withdraw c) = c
+abbrev pub contractorOf : Change → ℕ
+contractorOf (enter c) = c
+contractorOf (withdraw c) = c
 
 -- the roll after a call, and after a list of calls
 unfoldable pub changed : Change → Roll → Roll

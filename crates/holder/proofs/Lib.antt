@@ -1,4 +1,5 @@
 pub mod Zeros
 pub mod Whole
+pub mod Answers
 pub mod Walks
 pub mod KnownAnswers

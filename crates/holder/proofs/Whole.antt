@@ -1,36 +1,38 @@
 -- Whole holders: what the test says of one, and that steps keep it.
-use mathlib.Core.Path.{_≡_, _∙_}
+use mathlib.Core.Path.{_≡_, sym, ap, _∙_}
 use mathlib.Core.Bool.{Bool, true, false, _&&_}
-use mathlib.Core.List.{List}
-use Prim.Native.Nat.{ℕ, _*_, _≤_, _<_}
+use mathlib.Core.List.{List, _++_}
+use Prim.Native.Nat.{ℕ, _+_, _*_, _≤_, _<_}
+use native.Mathlib.Numerals.{add-one}
 use native.Mathlib.Omega.{arith}
 use lib.Dec.{ltb}
 use lib.ListN.{length, drop}
 use borrow.Author.Tests.{ltb-true, lt-ltb, le-ltb}
-use Rattle.refusal.proofs.Tests.{and-first, and-second}
+use Rattle.basics.proofs.Tests.{and-first, and-second}
 use Rattle.sizes.specs.Sizes.{Sized, keyLength, turn}
-use Rattle.schedule.specs.Columns.{columnRule}
+use Rattle.schedule.specs.Columns.{padded, columnRule}
 use Rattle.schedule.specs.Stages.{linearStep}
 use Rattle.schedule.proofs.Columns.{length-columns}
 use Rattle.sizes.proofs.Keys.{a-key}
 use Rattle.schedule.proofs.Padded.{length-plus}
-use Rattle.cycle.specs.Cycle.{stageAfter, stageBefore}
+use Rattle.basics.specs.Repeated.{repeated}
+use Rattle.cycle.specs.Cycle.{following, preceding, stageAfter, stageBefore}
 use Rattle.cycle.proofs.Addends.{following-below, preceding-below}
 use Rattle.holder.specs.declared.Holder.{Holder}
 use Rattle.holder.specs.declared.Way.{Way}
 use Rattle.holder.specs.declared.Way.the-variants.{Forward, Back}
-use Rattle.holder.specs.Holder.{sizeHeld, allZero, whole, onward, backward, stepped}
-use Rattle.holder.proofs.Zeros.{padded-zeros}
+use Rattle.holder.specs.Holder.{tHeld, allZero, whole, onward, backward, stepped}
+use Rattle.holder.proofs.Zeros.{padded-zeros, zeros-kept}
 
 pub record Whole (h : Holder) : Type 0 where
   pub key : keyLength (h .length) ≡ true
-  pub below : h .number < turn (sizeHeld h)
+  pub below : h .number < turn (tHeld h)
   pub zeros : allZero (drop (h .length) (h .bytes)) ≡ true
 
 pub a-whole : (h : Holder) → whole h ≡ true → Whole h
 unfolding whole
 a-whole h e =
-    let n = ltb (h .number) (turn (sizeHeld h)) in
+    let n = ltb (h .number) (turn (tHeld h)) in
     let z = allZero (drop (h .length) (h .bytes)) in
     let r = and-second (keyLength (h .length)) (n && z) e in
     record { key = and-first (keyLength (h .length)) (n && z) e; below = ltb-true _ _ (and-first n z r); zeros = and-second n z r }
@@ -42,24 +44,11 @@ pub is-whole : (h : Holder) → Whole h → whole h ≡ true
 unfolding whole
 is-whole h w = both _ _ _ (w .key) (lt-ltb _ _ (w .below)) (w .zeros)
 
--- as the code tries it
-pub not-key : (h : Holder) → keyLength (h .length) ≡ false → whole h ≡ false
-unfolding whole
-not-key h e = rw e
-
-pub not-below : (h : Holder) → keyLength (h .length) ≡ true → turn (sizeHeld h) ≤ h .number → whole h ≡ false
-unfolding whole
-not-below h e l = rw (e, le-ltb (h .number) (turn (sizeHeld h)) l)
-
-pub below-zeros : (h : Holder) → keyLength (h .length) ≡ true → h .number < turn (sizeHeld h) → whole h ≡ allZero (drop (h .length) (h .bytes))
-unfolding whole
-below-zeros h e l = rw (e, lt-ltb (h .number) (turn (sizeHeld h)) l)
-
 -- a whole holder's t, and that its turn is its length
-pub size-held : (h : Holder) → Whole h → Sized (sizeHeld h)
+pub size-held : (h : Holder) → Whole h → Sized (tHeld h)
 size-held h w = a-key (h .length) (w .key) .sized
 
-pub turn-held : (h : Holder) → Whole h → turn (sizeHeld h) ≡ h .length
+pub turn-held : (h : Holder) → Whole h → turn (tHeld h) ≡ h .length
 turn-held h w = a-key (h .length) (w .key) .is
 
 -- ---- steps
@@ -71,17 +60,48 @@ length-before : (t s : ℕ) (k : List ℕ) → length (stageBefore t s k) ≡ 3 
 unfolding stageBefore
 length-before t s k = length-plus (2 * t) _ _
 
+-- what `cycle` asks of a step, and what a step in place leaves: the zeros past the key
+module _ (h : Holder) (e : whole h ≡ true) where
+  pub number-asks : Sized (tHeld h) × (h .number < turn (tHeld h))
+  number-asks = let w = a-whole h e in (size-held h w, w .below)
+
+  pub step-asks : length (h .bytes) ≡ 24 → Sized (tHeld h) × ((h .number < turn (tHeld h)) × (length (h .bytes) ≡ 24))
+  step-asks l = (number-asks .0, (number-asks .1, l))
+
+  module _ (l : length (h .bytes) ≡ 24) (way : Way) (n : ℕ) (b : List ℕ) where
+    padded-held : (x : List ℕ) → length x ≡ 3 * (2 * tHeld h) → b ≡ x ++ drop (6 * tHeld h) (h .bytes) → b ≡ padded x
+    padded-held x ex eb =
+        let w = a-whole h e in
+        let z = ap (λ (m : ℕ). allZero (drop m (h .bytes))) (turn-held h w) ∙ w .zeros in
+        eb ∙ zeros-kept x (h .bytes) (6 * tHeld h) (omega arith) l z
+
+    pub step-on : way ≡ Forward → b ≡ stageAfter (tHeld h) (h .number) (h .bytes) ++ drop (6 * tHeld h) (h .bytes)
+        → n ≡ following (tHeld h) (h .number) → record { length = h .length; number = n; bytes = b } ≡ stepped way h
+    unfolding stepped onward
+    step-on ew eb en =
+        let x = stageAfter (tHeld h) (h .number) (h .bytes) in
+        let p = padded-held x (length-after (tHeld h) (h .number) (h .bytes)) eb in
+        (λ i. record { length = h .length; number = en i; bytes = p i }) ∙ ap (λ (w : Way). stepped w h) (sym ew)
+
+    pub step-back : way ≡ Back → b ≡ stageBefore (tHeld h) (h .number) (h .bytes) ++ drop (6 * tHeld h) (h .bytes)
+        → n ≡ preceding (tHeld h) (h .number) → record { length = h .length; number = n; bytes = b } ≡ stepped way h
+    unfolding stepped backward
+    step-back ew eb en =
+        let x = stageBefore (tHeld h) (h .number) (h .bytes) in
+        let p = padded-held x (length-before (tHeld h) (h .number) (h .bytes)) eb in
+        (λ i. record { length = h .length; number = en i; bytes = p i }) ∙ ap (λ (w : Way). stepped w h) (sym ew)
+
 onward-whole : (h : Holder) → Whole h → Whole (onward h)
 unfolding onward
 onward-whole h w =
-    let t = sizeHeld h in
+    let t = tHeld h in
     let e : 3 * (2 * t) ≡ h .length = omega (arith, turn-held h w) in
     record { key = w .key; below = following-below t (h .number) (w .below); zeros = padded-zeros _ (h .length) (length-after t (h .number) (h .bytes) ∙ e) }
 
 backward-whole : (h : Holder) → Whole h → Whole (backward h)
 unfolding backward
 backward-whole h w =
-    let t = sizeHeld h in
+    let t = tHeld h in
     let e : 3 * (2 * t) ≡ h .length = omega (arith, turn-held h w) in
     record { key = w .key; below = preceding-below t (h .number) (w .below); zeros = padded-zeros _ (h .length) (length-before t (h .number) (h .bytes) ∙ e) }
 
@@ -89,3 +109,11 @@ pub step-whole : (way : Way) (h : Holder) → whole h ≡ true → whole (steppe
 unfolding stepped
 step-whole Forward h e = is-whole (onward h) (onward-whole h (a-whole h e))
 step-whole Back h e = is-whole (backward h) (backward-whole h (a-whole h e))
+
+-- one step more, of a list of them
+pub step-more : (way : Way) (h at r : Holder) (i : ℕ) → (at ≡ repeated i (stepped way) h) × (whole at ≡ true) → r ≡ stepped way at
+    → (r ≡ repeated (i + 1) (stepped way) h) × (whole r ≡ true)
+step-more way h at r i (ea, w) e = (
+  e ∙ ap (stepped way) ea ∙ ap (λ (m : ℕ). repeated m (stepped way) h) (sym (add-one i)),
+  ap whole e ∙ step-whole way at w,
+)

@@ -1,12 +1,15 @@
--- The test that the bytes past the key are zero, as a loop makes it.
+-- The bytes past the key: the test that they are zero, as a loop makes it, and what it says of a stage in 24 bytes.
 use mathlib.Core.Path.{_≡_, refl, sym, ap, _∙_}
 use mathlib.Core.Bool.{Bool, true, false, _&&_}
-use mathlib.Core.List.{List}
+use mathlib.Core.List.{List, [], _∷_, _++_}
 use Prim.Native.Nat.{ℕ, zero, suc, _+_, _-_, _≤_, _<_}
 use native.Mathlib.Numerals.{add-one}
-use lib.ListN.{length, getD, drop, replicate, drop-of-length-le}
+use native.Mathlib.Omega.{arith}
+use lib.Dec.{eqb}
+use lib.ListN.{length, getD, drop, replicate, length-drop, drop-of-length-le}
 use lib.Seq.{drop-cons, drop-at}
-use borrow.Author.Tests.{eq-eqb, ne-eqb}
+use borrow.Author.Tests.{eq-eqb, ne-eqb, eqb-true}
+use Rattle.basics.proofs.Tests.{and-first, and-second}
 use Rattle.schedule.specs.Columns.{padded}
 use Rattle.holder.specs.Holder.{allZero}
 
@@ -30,7 +33,24 @@ unfolding allZero
 zeros zero = refl
 zeros (suc n) = zeros n
 
--- past a stage in 24 bytes
-pub padded-zeros : (k : List ℕ) (n : ℕ) → length k ≡ n → allZero (drop n (padded k)) ≡ true
+-- all that holders have to know of a stage in 24 bytes
+padded-is : (k : List ℕ) (n : ℕ) → length k ≡ n → padded k ≡ k ++ replicate (24 - n) 0
 unfolding padded
-padded-zeros k n e = ap allZero (drop-at k (replicate (24 - length k) 0) n e) ∙ zeros (24 - length k)
+padded-is k n e = ap (λ (m : ℕ). k ++ replicate (24 - m) 0) e
+
+pub padded-zeros : (k : List ℕ) (n : ℕ) → length k ≡ n → allZero (drop n (padded k)) ≡ true
+padded-zeros k n e =
+    ap (λ (l : List ℕ). allZero (drop n l)) (padded-is k n e)
+    ∙ ap allZero (drop-at k (replicate (24 - n) 0) n e)
+    ∙ zeros (24 - n)
+
+zeros-are : (l : List ℕ) → allZero l ≡ true → l ≡ replicate (length l) 0
+unfolding allZero
+zeros-are [] e = refl
+zeros-are (b ∷ bs) e = λ i. eqb-true b 0 (and-first (eqb b 0) (allZero bs) e) i ∷ zeros-are bs (and-second (eqb b 0) (allZero bs) e) i
+
+-- a stage before the zeros that stood past another
+pub zeros-kept : (x k : List ℕ) (n : ℕ) → length x ≡ n → length k ≡ 24 → allZero (drop n k) ≡ true → x ++ drop n k ≡ padded x
+zeros-kept x k n ex ek z =
+    let e : length (drop n k) ≡ 24 - n = omega (arith, length-drop n k) in
+    ap (λ (l : List ℕ). x ++ l) (zeros-are (drop n k) z ∙ ap (λ (m : ℕ). replicate m 0) e) ∙ sym (padded-is x n ex)

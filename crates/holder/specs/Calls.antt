@@ -6,12 +6,12 @@ use lib.Dec.{ltb}
 use lib.ListN.{length, replicate}
 use Rattle.refusal.specs.Tries.{Try, _unless_, first, answered}
 use Rattle.blocks.specs.Blocks.{bytesOf}
-use Rattle.sizes.specs.Sizes.{keyLength, sizeOf, turn}
+use Rattle.sizes.specs.Sizes.{keyLength, tOf, turn}
 use Rattle.schedule.specs.Stages.{subkeyOf}
 use Rattle.holder.specs.declared.Holder.{Holder}
 use Rattle.holder.specs.declared.Way.{Way}
 use Rattle.holder.specs.declared.Way.the-variants.{Forward}
-use Rattle.holder.specs.Holder.{sizeHeld, whole, holderAt, blank, stepped, ringDistance, wayTo, walked}
+use Rattle.holder.specs.Holder.{tHeld, whole, holderAt, blank, stepped, ringDistance, wayTo, walked}
 
 -- ---- make a holder from a key
 abbrev pub makeTries : List ℕ → List Try
@@ -24,11 +24,12 @@ unfoldable pub madeHolder : List ℕ → Holder
 madeHolder key = answered (makeNumber key) (holderAt key 0) blank
 
 -- ---- give a stage straight from key and number
-abbrev pub straightTries : List ℕ → ℕ → List Try
-straightTries key n = (1 unless keyLength (length key)) ∷ (5 unless ltb n (turn (sizeOf (length key)))) ∷ []
+-- for a key of so many bytes
+abbrev pub straightTries : ℕ → ℕ → List Try
+straightTries length n = (1 unless keyLength length) ∷ (5 unless ltb n (turn (tOf length))) ∷ []
 
 abbrev pub straightNumber : List ℕ → ℕ → ℕ
-straightNumber key n = first (straightTries key n)
+straightNumber key n = first (straightTries (length key) n)
 
 unfoldable pub straightHolder : List ℕ → ℕ → Holder
 straightHolder key n = answered (straightNumber key n) (holderAt key n) blank
@@ -45,7 +46,7 @@ stepHolder w h = answered (holderNumber h) (stepped w h) h
 
 -- ---- walk to stage d
 abbrev pub walkTries : Holder → ℕ → List Try
-walkTries h d = (24 unless whole h) ∷ (5 unless ltb d (turn (sizeHeld h))) ∷ []
+walkTries h d = (24 unless whole h) ∷ (5 unless ltb d (turn (tHeld h))) ∷ []
 
 abbrev pub walkNumber : Holder → ℕ → ℕ
 walkNumber h d = first (walkTries h d)
@@ -55,10 +56,10 @@ walkHolder h d = answered (walkNumber h d) (walked h d) h
 
 -- the steps and the direction that it reports; a refused walk reports 0 steps forward
 unfoldable pub walkSteps : Holder → ℕ → ℕ
-walkSteps h d = answered (walkNumber h d) (ringDistance (sizeHeld h) (h .number) d) 0
+walkSteps h d = answered (walkNumber h d) (ringDistance (tHeld h) (h .number) d) 0
 
 unfoldable pub walkWay : Holder → ℕ → Way
-walkWay h d = answered (walkNumber h d) (wayTo (sizeHeld h) (h .number) d) Forward
+walkWay h d = answered (walkNumber h d) (wayTo (tHeld h) (h .number) d) Forward
 
 -- ---- give the subkey
 -- what stands in the subkey's place where it is refused

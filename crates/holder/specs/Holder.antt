@@ -5,18 +5,18 @@ use mathlib.Core.List.{List, [], _∷_}
 use Prim.Native.Nat.{ℕ, _+_, _-_, _*_, _%_}
 use lib.Dec.{eqb, ltb, leb}
 use lib.ListN.{length, drop, replicate}
-use Rattle.sizes.specs.Sizes.{keyLength, sizeOf, turn}
+use Rattle.sizes.specs.Sizes.{keyLength, tOf, turn}
 use Rattle.schedule.specs.Columns.{padded}
 use Rattle.schedule.specs.Stages.{stage}
-use Rattle.period.specs.Repeated.{repeated}
+use Rattle.basics.specs.Repeated.{repeated}
 use Rattle.cycle.specs.Cycle.{following, preceding, stageAfter, stageBefore}
 use Rattle.holder.specs.declared.Holder.{Holder}
 use Rattle.holder.specs.declared.Way.{Way}
 use Rattle.holder.specs.declared.Way.the-variants.{Forward, Back}
 
 -- the t of a holder's key length
-abbrev pub sizeHeld : Holder → ℕ
-sizeHeld h = sizeOf (h .length)
+abbrev pub tHeld : Holder → ℕ
+tHeld h = tOf (h .length)
 
 unfoldable pub allZero : List ℕ → Bool
 allZero [] = true
@@ -24,11 +24,11 @@ allZero (b ∷ bs) = eqb b 0 && allZero bs
 
 -- a holder that is not refused with 24: a right key length, a number below the turn, and zeros past the key
 unfoldable pub whole : Holder → Bool
-whole h = keyLength (h .length) && (ltb (h .number) (turn (sizeHeld h)) && allZero (drop (h .length) (h .bytes)))
+whole h = keyLength (h .length) && (ltb (h .number) (turn (tHeld h)) && allZero (drop (h .length) (h .bytes)))
 
 -- the holder of a key at its stage n
 abbrev pub holderAt : List ℕ → ℕ → Holder
-holderAt key n = record { length = length key; number = n; bytes = padded (stage (sizeOf (length key)) key n) }
+holderAt key n = record { length = length key; number = n; bytes = padded (stage (tOf (length key)) key n) }
 
 -- what stands in the holder's place where a call that makes one refuses. Every call on it is refused with 24
 unfoldable pub blank : Holder
@@ -39,16 +39,16 @@ blank = record { length = 0; number = 0; bytes = replicate 24 0 }
 unfoldable pub onward : Holder → Holder
 onward h = record {
   length = h .length;
-  number = following (sizeHeld h) (h .number);
-  bytes = padded (stageAfter (sizeHeld h) (h .number) (h .bytes));
+  number = following (tHeld h) (h .number);
+  bytes = padded (stageAfter (tHeld h) (h .number) (h .bytes));
 }
 
 -- a step back, which undoes it
 unfoldable pub backward : Holder → Holder
 backward h = record {
   length = h .length;
-  number = preceding (sizeHeld h) (h .number);
-  bytes = padded (stageBefore (sizeHeld h) (h .number) (h .bytes));
+  number = preceding (tHeld h) (h .number);
+  bytes = padded (stageBefore (tHeld h) (h .number) (h .bytes));
 }
 
 unfoldable pub stepped : Way → Holder → Holder
@@ -70,4 +70,4 @@ wayTo t s d = cond (leb (stepsForward t s d) (3 * t)) Forward Back
 
 -- a walk takes that many steps, that way
 unfoldable pub walked : Holder → ℕ → Holder
-walked h d = repeated (ringDistance (sizeHeld h) (h .number) d) (stepped (wayTo (sizeHeld h) (h .number) d)) h
+walked h d = repeated (ringDistance (tHeld h) (h .number) d) (stepped (wayTo (tHeld h) (h .number) d)) h

@@ -2,7 +2,7 @@
 use mathlib.Core.List.{List, [], _∷_}
 use Prim.Native.Nat.{ℕ}
 use Rattle.basics.specs.Cases.{Case, _is_}
-use Rattle.sizes.specs.Sizes.{sizeOf}
+use Rattle.sizes.specs.Sizes.{tOf}
 use Rattle.holder.specs.declared.Way.{Way}
 use Rattle.holder.specs.declared.Way.the-variants.{Forward, Back}
 use Rattle.holder.specs.Holder.{ringDistance, wayTo}
@@ -13,7 +13,7 @@ wayNumber Back = 1
 
 -- a walk with a key of n bytes, from stage s to stage d
 abbrev pub walkOf : ℕ → ℕ → ℕ → List ℕ
-walkOf n s d = ringDistance (sizeOf n) s d ∷ wayNumber (wayTo (sizeOf n) s d) ∷ []
+walkOf n s d = ringDistance (tOf n) s d ∷ wayNumber (wayTo (tOf n) s d) ∷ []
 
 unfoldable pub knownAnswers : List Case
 knownAnswers =

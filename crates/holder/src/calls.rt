@@ -3,12 +3,14 @@
 ghost use mathlib.Core.Path.{_≡_};
 ghost use Prim.Native.Nat.{_*_, _≤_};
 ghost use Rattle.refusal.specs.Reasons.{outcomeNumber};
+ghost use Rattle.refusal.specs.Tries.{first};
 ghost use Rattle.holder.specs.declared.Way.the-variants.{Forward, Back};
-ghost use Rattle.holder.specs.Holder.{sizeHeld};
-ghost use Rattle.holder.specs.Calls.{makeNumber, madeHolder, straightNumber, straightHolder, holderNumber, stepHolder, walkNumber, walkHolder, walkSteps, walkWay, subkeyHeld};
-use crate::Given;
-use crate::Held;
+ghost use Rattle.holder.specs.Holder.{tHeld};
+ghost use Rattle.holder.specs.Calls.{makeNumber, madeHolder, straightTries, straightNumber, straightHolder, holderNumber, stepHolder};
+ghost use Rattle.holder.specs.Calls.{walkNumber, walkHolder, walkSteps, walkWay, subkeyHeld};
 use crate::Holder;
+use crate::HolderAnswer;
+use crate::SubkeyAnswer;
 use crate::Walked;
 use crate::Way;
 use crate::stages::blank_holder;
@@ -18,66 +20,74 @@ use crate::steps::step;
 use crate::steps::steps;
 use refusal::Outcome;
 use refusal::Reason;
+use refusal::unless;
 
 // A holder of a key at stage 0.
-pub fn make(key: &[u8]) -> Held
+pub fn make(key: &[u8]) -> HolderAnswer
     ensures { λ r. ⌜ outcomeNumber (r .outcome) ≡ makeNumber (now (key .entry)) ⌝ }
     ensures { λ r. ⌜ r .holder ≡ madeHolder (now (key .entry)) ⌝ }
 {
     if !sizes::is_key_length(key.len()) {
-        return Held {
+        return HolderAnswer {
             outcome: Outcome::Refused(Reason::KeyLength),
             holder: blank_holder(),
         };
     }
-    Held {
+    HolderAnswer {
         outcome: Outcome::Done,
         holder: stage_at(key, 0),
     }
 }
 
+// A key of so many bytes, then the number of a stage.
+pub fn try_straight(length: usize, n: usize) -> Outcome
+    ensures { λ r. ⌜ outcomeNumber r ≡ first (straightTries length n) ⌝ }
+{
+    let known = unless(
+        Outcome::Done,
+        Reason::KeyLength,
+        sizes::is_key_length(length),
+    );
+    unless(known, Reason::StageOrList, n < sizes::turn_of_key(length))
+}
+
 // A stage straight from the key and a number, as a holder.
-pub fn straight(key: &[u8], n: usize) -> Held
+pub fn straight(key: &[u8], n: usize) -> HolderAnswer
     ensures { λ r. ⌜ outcomeNumber (r .outcome) ≡ straightNumber (now (key .entry)) n ⌝ }
     ensures { λ r. ⌜ r .holder ≡ straightHolder (now (key .entry)) n ⌝ }
 {
-    if !sizes::is_key_length(key.len()) {
-        return Held {
-            outcome: Outcome::Refused(Reason::KeyLength),
+    let outcome = try_straight(key.len(), n);
+    if refusal::is_refused(outcome) {
+        return HolderAnswer {
+            outcome,
             holder: blank_holder(),
         };
     }
-    if sizes::turn_of_key(key.len()) <= n {
-        return Held {
-            outcome: Outcome::Refused(Reason::StageOrList),
-            holder: blank_holder(),
-        };
-    }
-    Held {
-        outcome: Outcome::Done,
+    HolderAnswer {
+        outcome,
         holder: stage_at(key, n),
     }
 }
 
 // One step, either way.
-fn step_either(way: Way, h: Holder) -> Held
+fn step_either(way: Way, h: Holder) -> HolderAnswer
     ensures { λ r. ⌜ outcomeNumber (r .outcome) ≡ holderNumber h ⌝ }
     ensures { λ r. ⌜ r .holder ≡ stepHolder way h ⌝ }
 {
     if !is_whole(h) {
-        return Held {
+        return HolderAnswer {
             outcome: Outcome::Refused(Reason::BrokenHolder),
             holder: h,
         };
     }
-    Held {
+    HolderAnswer {
         outcome: Outcome::Done,
         holder: step(way, h),
     }
 }
 
 // A step forward.
-pub fn forward(h: Holder) -> Held
+pub fn forward(h: Holder) -> HolderAnswer
     ensures { λ r. ⌜ outcomeNumber (r .outcome) ≡ holderNumber h ⌝ }
     ensures { λ r. ⌜ r .holder ≡ stepHolder Forward h ⌝ }
 {
@@ -85,23 +95,11 @@ pub fn forward(h: Holder) -> Held
 }
 
 // A step back.
-pub fn back(h: Holder) -> Held
+pub fn back(h: Holder) -> HolderAnswer
     ensures { λ r. ⌜ outcomeNumber (r .outcome) ≡ holderNumber h ⌝ }
     ensures { λ r. ⌜ r .holder ≡ stepHolder Back h ⌝ }
 {
     step_either(Way::Back, h)
-}
-
-// A refused walk reports no steps.
-fn refused_walk(reason: Reason, h: Holder) -> Walked
-    ensures { λ r. ⌜ (r .outcome ≡ Outcome.Refused reason) × ((r .holder ≡ h) × ((r .steps ≡ 0) × (r .way ≡ Forward))) ⌝ }
-{
-    Walked {
-        outcome: Outcome::Refused(reason),
-        holder: h,
-        steps: 0,
-        way: Way::Forward,
-    }
 }
 
 // A walk to stage d, the shorter way, with the steps that it took and their direction.
@@ -110,19 +108,23 @@ pub fn walk(h: Holder, d: usize) -> Walked
     ensures { λ r. ⌜ r .holder ≡ walkHolder h d ⌝ }
     ensures { λ r. ⌜ r .steps ≡ walkSteps h d ⌝ }
     ensures { λ r. ⌜ r .way ≡ walkWay h d ⌝ }
-    ensures { λ r. ⌜ r .steps ≤ 3 * sizeHeld h ⌝ }
+    ensures { λ r. ⌜ r .steps ≤ 3 * tHeld h ⌝ }
 {
-    if !is_whole(h) {
-        return refused_walk(Reason::BrokenHolder, h);
-    }
     let turn = sizes::turn_of_key(h.length);
-    if turn <= d {
-        return refused_walk(Reason::StageOrList, h);
+    let whole = unless(Outcome::Done, Reason::BrokenHolder, is_whole(h));
+    let outcome = unless(whole, Reason::StageOrList, d < turn);
+    if refusal::is_refused(outcome) {
+        return Walked {
+            outcome,
+            holder: h,
+            steps: 0,
+            way: Way::Forward,
+        };
     }
     let forward = (d + (turn - h.number)) % turn;
     if forward <= turn / 2 {
         return Walked {
-            outcome: Outcome::Done,
+            outcome,
             holder: steps(Way::Forward, forward, h),
             steps: forward,
             way: Way::Forward,
@@ -130,7 +132,7 @@ pub fn walk(h: Holder, d: usize) -> Walked
     }
     let back = turn - forward;
     Walked {
-        outcome: Outcome::Done,
+        outcome,
         holder: steps(Way::Back, back, h),
         steps: back,
         way: Way::Back,
@@ -138,20 +140,20 @@ pub fn walk(h: Holder, d: usize) -> Walked
 }
 
 // The subkey of the stage that is held.
-pub fn subkey(h: Holder) -> Given
+pub fn subkey(h: Holder) -> SubkeyAnswer
     ensures { λ r. ⌜ outcomeNumber (r .outcome) ≡ holderNumber h ⌝ }
     ensures { λ r. ⌜ r .subkey ≡ subkeyHeld h ⌝ }
 {
     let mut out = [0u8; 12];
     if !is_whole(h) {
-        return Given {
+        return SubkeyAnswer {
             outcome: Outcome::Refused(Reason::BrokenHolder),
             subkey: out,
         };
     }
     let bytes = h.bytes;
     blocks::write_state(&mut out, schedule::subkey(&bytes));
-    Given {
+    SubkeyAnswer {
         outcome: Outcome::Done,
         subkey: out,
     }

@@ -9,8 +9,10 @@ pub use calls::forward;
 pub use calls::make;
 pub use calls::straight;
 pub use calls::subkey;
+pub use calls::try_straight;
 pub use calls::walk;
 use refusal::Outcome;
+pub use stages::stage_bytes;
 
 // A key's length, a stage's number and its bytes, with zeros past the key's length.
 pub struct Holder {
@@ -26,7 +28,7 @@ pub enum Way {
 }
 
 // What making a holder, giving a stage straight from the key, and a step answer.
-pub struct Held {
+pub struct HolderAnswer {
     pub outcome: Outcome,
     pub holder: Holder,
 }
@@ -40,7 +42,7 @@ pub struct Walked {
 }
 
 // What a request for the subkey answers.
-pub struct Given {
+pub struct SubkeyAnswer {
     pub outcome: Outcome,
     pub subkey: [u8; 12],
 }

@@ -4,7 +4,9 @@ ghost use mathlib.Core.Path.{_≡_};
 ghost use mathlib.Core.Bool.{true};
 ghost use Prim.Native.Nat.{_<_};
 ghost use lib.ListN.{length};
-ghost use Rattle.sizes.specs.Sizes.{keyLength, sizeOf, turn};
+ghost use Rattle.schedule.specs.Columns.{padded};
+ghost use Rattle.schedule.specs.Stages.{stage};
+ghost use Rattle.sizes.specs.Sizes.{keyLength, tOf, turn};
 ghost use Rattle.holder.specs.Holder.{holderAt, blank};
 use crate::Holder;
 
@@ -18,10 +20,10 @@ pub fn blank_holder() -> Holder
     }
 }
 
-// The holder of a key at its stage n.
-pub fn stage_at(key: &[u8], n: usize) -> Holder
-    requires { ⌜ (keyLength (length (now key)) ≡ true) × (n < turn (sizeOf (length (now key)))) ⌝ }
-    ensures { λ r. ⌜ r ≡ holderAt (now (key .entry)) n ⌝ }
+// A key's stage n: 24 bytes, with zeros past the key's length.
+pub fn stage_bytes(key: &[u8], n: usize) -> [u8; 24]
+    requires { ⌜ (keyLength (length (now key)) ≡ true) × (n < turn (tOf (length (now key)))) ⌝ }
+    ensures { λ r. ⌜ r ≡ padded (stage (tOf (length (now (key .entry)))) (now (key .entry)) n) ⌝ }
 {
     let t = key.len() / 6;
     let mut k = schedule::stage_of_key(key);
@@ -30,9 +32,17 @@ pub fn stage_at(key: &[u8], n: usize) -> Holder
         s += 1;
         schedule::next_stage(t, s, &mut k);
     }
+    k
+}
+
+// The holder of a key at its stage n.
+pub fn stage_at(key: &[u8], n: usize) -> Holder
+    requires { ⌜ (keyLength (length (now key)) ≡ true) × (n < turn (tOf (length (now key)))) ⌝ }
+    ensures { λ r. ⌜ r ≡ holderAt (now (key .entry)) n ⌝ }
+{
     Holder {
         length: key.len(),
         number: n,
-        bytes: k,
+        bytes: stage_bytes(key, n),
     }
 }

@@ -3,10 +3,11 @@
 ghost use mathlib.Core.Path.{_≡_};
 ghost use mathlib.Core.Bool.{true};
 ghost use lib.ListN.{drop};
-ghost use Rattle.period.specs.Repeated.{repeated};
-ghost use Rattle.holder.specs.Holder.{allZero, whole, onward, backward, stepped};
+ghost use Rattle.basics.specs.Repeated.{repeated};
+ghost use Rattle.holder.specs.Holder.{allZero, whole, stepped};
 use crate::Holder;
 use crate::Way;
+use basics::both;
 
 // Every byte from n on is zero.
 fn zeros_from(bytes: &[u8], n: usize) -> bool
@@ -29,54 +30,39 @@ pub fn is_whole(h: Holder) -> bool
     let length = h.length;
     let number = h.number;
     let bytes = h.bytes;
-    if !sizes::is_key_length(length) {
-        return false;
-    }
-    if sizes::turn_of_key(length) <= number {
-        return false;
-    }
-    zeros_from(&bytes, length)
+    let below = number < sizes::turn_of_key(length);
+    both(
+        sizes::is_key_length(length),
+        both(below, zeros_from(&bytes, length)),
+    )
 }
 
-fn step_on(h: Holder) -> Holder
-    requires { ⌜ whole h ≡ true ⌝ }
-    ensures { λ r. ⌜ r ≡ onward h ⌝ }
-{
-    let length = h.length;
-    let number = h.number;
-    let t = length / 6;
-    let bytes = h.bytes;
-    let next = cycle::stage_after(t, number, bytes);
-    Holder {
-        length,
-        number: cycle::number_after(t, number),
-        bytes: next,
-    }
-}
-
-fn step_back(h: Holder) -> Holder
-    requires { ⌜ whole h ≡ true ⌝ }
-    ensures { λ r. ⌜ r ≡ backward h ⌝ }
-{
-    let length = h.length;
-    let number = h.number;
-    let t = length / 6;
-    let bytes = h.bytes;
-    let next = cycle::stage_before(t, number, bytes);
-    Holder {
-        length,
-        number: cycle::number_before(t, number),
-        bytes: next,
-    }
-}
-
+// One step, the way that is told, on a copy of the holder's bytes.
 pub fn step(way: Way, h: Holder) -> Holder
     requires { ⌜ whole h ≡ true ⌝ }
     ensures { λ r. ⌜ r ≡ stepped way h ⌝ }
 {
+    let length = h.length;
+    let number = h.number;
+    let t = length / 6;
+    let mut bytes = h.bytes;
     match way {
-        Way::Forward => step_on(h),
-        Way::Back => step_back(h),
+        Way::Forward => {
+            cycle::stage_after(t, number, &mut bytes);
+            Holder {
+                length,
+                number: cycle::number_after(t, number),
+                bytes,
+            }
+        }
+        Way::Back => {
+            cycle::stage_before(t, number, &mut bytes);
+            Holder {
+                length,
+                number: cycle::number_before(t, number),
+                bytes,
+            }
+        }
     }
 }
 

@@ -1,28 +1,14 @@
-// Prints what the holder's calls answer on both sides of every limit: key lengths, stage numbers, every walk, and holders broken in each
-// way, with whether a refused call left the holder as it was.
+// Reads rows of numbers, a call on a key holder and what it is given, and prints what the call answers, with whether a refused call left the
+// holder as it was. The rows have each reason for refusing alone and each two that can hold together, and both sides of every limit: key
+// lengths, stage numbers, half a turn from every stage, and holders that are not whole (tools/expected-edges).
 
 use holder::Holder;
+use holder::HolderAnswer;
 use holder::Way;
 use refusal::Outcome;
 
-const LENGTHS: [usize; 10] = [0, 11, 12, 13, 17, 18, 19, 23, 24, 25];
-
-const STAGES: [usize; 12] = [0, 1, 11, 12, 13, 17, 18, 23, 24, 255, 256, 4294967296];
-
-const SIZES: [usize; 3] = [12, 18, 24];
-
-const WRONG_LENGTHS: [usize; 10] = [0, 6, 11, 13, 17, 19, 23, 25, 30, 18446744073709551604];
-
-const WRONG_NUMBERS: [usize; 7] = [12, 18, 24, 25, 256, 4294967296, 18446744073709551615];
-
-fn number(n: usize) {
-    printing::space();
-    printing::decimal(n as u64);
-}
-
 fn outcome(o: Outcome) {
-    printing::space();
-    printing::decimal(refusal::outcome_number(o) as u64);
+    printing::number(refusal::outcome_number(o) as u64);
 }
 
 fn way(w: Way) {
@@ -34,49 +20,47 @@ fn way(w: Way) {
 
 // A key's length and a stage's number, as a holder has them.
 fn held(h: Holder) {
-    number(h.length);
-    number(h.number);
+    printing::number(h.length as u64);
+    printing::number(h.number as u64);
     printing::newline();
 }
 
-fn make_line(length: usize) {
-    let key = [7u8; 32];
-    let r = holder::make(printing::first(&key, length));
+fn made(r: HolderAnswer) {
     let o = r.outcome;
     let h = r.holder;
+    outcome(o);
+    held(h);
+}
+
+fn make_line() {
+    let key = [7u8; 32];
     printing::word(b"make");
-    number(length);
-    outcome(o);
-    held(h);
+    let k = printing::echo();
+    made(holder::make(printing::first(&key, k)));
 }
 
-fn straight_line(length: usize, n: usize) {
+fn straight_line() {
     let key = [7u8; 32];
-    let r = holder::straight(printing::first(&key, length), n);
-    let o = r.outcome;
-    let h = r.holder;
     printing::word(b"straight");
-    number(length);
-    number(n);
-    outcome(o);
-    held(h);
+    let k = printing::echo();
+    let n = printing::echo();
+    made(holder::straight(printing::first(&key, k), n));
 }
 
-// A walk from stage s to stage d of a key.
-fn walk_line(length: usize, s: usize, d: usize) {
+fn walk_line() {
     let key = [7u8; 32];
-    let from = holder::straight(printing::first(&key, length), s);
+    printing::word(b"walk");
+    let k = printing::echo();
+    let s = printing::echo();
+    let d = printing::echo();
+    let from = holder::straight(printing::first(&key, k), s);
     let start = from.holder;
     let r = holder::walk(start, d);
     let o = r.outcome;
     let h = r.holder;
     let w = r.way;
-    printing::word(b"walk");
-    number(length);
-    number(s);
-    number(d);
     outcome(o);
-    number(r.steps);
+    printing::number(r.steps as u64);
     way(w);
     held(h);
 }
@@ -95,13 +79,7 @@ fn same_bytes(a: &[u8; 24], b: &[u8; 24]) -> bool {
 fn same(a: Holder, b: Holder) -> bool {
     let p = a.bytes;
     let q = b.bytes;
-    if a.length != b.length {
-        return false;
-    }
-    if a.number != b.number {
-        return false;
-    }
-    same_bytes(&p, &q)
+    a.length == b.length && a.number == b.number && same_bytes(&p, &q)
 }
 
 fn kept(o: Outcome, ok: bool) {
@@ -126,16 +104,15 @@ fn step_case(h: Holder) {
     kept(bo, same(h, bh));
 }
 
-// A refused walk also reports no steps, forward.
 fn walk_case(h: Holder, d: usize) {
     let r = holder::walk(h, d);
     let o = r.outcome;
     let w = r.way;
     let left = r.holder;
     printing::word(b" walk");
-    number(d);
+    printing::number(d as u64);
     kept(o, same(h, left));
-    number(r.steps);
+    printing::number(r.steps as u64);
     way(w);
 }
 
@@ -147,132 +124,48 @@ fn subkey_case(h: Holder) {
     printing::word(b" subkey");
     outcome(o);
     if printing::all_marks(&k, 0, 0) {
-        printing::word(b" zeros");
+        printing::word(b" zeros\n");
     } else {
-        printing::word(b" given");
+        printing::word(b" given\n");
     }
 }
 
-// Every call on a broken holder. 5 would hold of the second walk too; 24 comes before it.
-fn broken_line(h: Holder, at: usize) {
-    printing::word(b"broken");
-    number(h.length);
-    number(h.number);
-    number(at);
+// Every call on a holder that no call made, whole or not. There is no stage 99.
+fn handed_line() {
+    let mut bytes = [0u8; 24];
+    printing::word(b"handed");
+    let length = printing::echo();
+    let number = printing::echo();
+    let place = printing::echo();
+    bytes[place % 24] = 1;
+    let h = Holder {
+        length,
+        number,
+        bytes,
+    };
     step_case(h);
     walk_case(h, 0);
     walk_case(h, 99);
     subkey_case(h);
-    printing::newline();
 }
 
-// Stage 1 of a key, with a byte past the key set.
-fn broken_byte(length: usize, at: usize) {
-    let key = [7u8; 32];
-    let r = holder::straight(printing::first(&key, length), 1);
-    let mut h = r.holder;
-    h.bytes[at % 24] = 1;
-    broken_line(h, at);
-}
-
-fn broken_length(length: usize) {
-    broken_line(
-        Holder {
-            length,
-            number: 1,
-            bytes: [0u8; 24],
-        },
-        0,
-    );
-}
-
-fn broken_number(length: usize, n: usize) {
-    broken_line(
-        Holder {
-            length,
-            number: n,
-            bytes: [0u8; 24],
-        },
-        0,
-    );
-}
-
-fn make_lines() {
-    let mut i: usize = 0;
-    while i < 10 {
-        make_line(LENGTHS[i]);
-        i += 1;
-    }
-}
-
-fn straight_lines() {
-    let mut i: usize = 0;
-    while i < 120 {
-        straight_line(LENGTHS[i / 12], STAGES[i % 12]);
-        i += 1;
-    }
-}
-
-// Every walk between two stages, and to the two numbers after the last.
-fn walk_lines() {
-    let mut i: usize = 0;
-    while i < 1872 {
-        let length = SIZES[i / 624];
-        let s = i / 26 % 24;
-        let d = i % 26;
-        if s < length && d < length % 32 + 2 {
-            walk_line(length, s, d);
-        }
-        i += 1;
-    }
-}
-
-// Walks to numbers that are far too great.
-fn far_lines() {
-    let mut i: usize = 0;
-    while i < 9 {
-        walk_line(SIZES[i / 3], 1, STAGES[9 + i % 3]);
-        i += 1;
-    }
-}
-
-fn length_lines() {
-    let mut i: usize = 0;
-    while i < 10 {
-        broken_length(WRONG_LENGTHS[i]);
-        i += 1;
-    }
-}
-
-fn number_lines() {
-    let mut i: usize = 0;
-    while i < 21 {
-        let length = SIZES[i / 7];
-        let n = WRONG_NUMBERS[i % 7];
-        if length <= n {
-            broken_number(length, n);
-        }
-        i += 1;
-    }
-}
-
-fn byte_lines() {
-    let mut i: usize = 0;
-    while i < 48 {
-        let length = SIZES[i / 24];
-        if length <= i % 24 {
-            broken_byte(length, i % 24);
-        }
-        i += 1;
+fn line(call: u64) {
+    if call == 1 {
+        make_line();
+    } else if call == 2 {
+        straight_line();
+    } else if call == 3 {
+        walk_line();
+    } else {
+        handed_line();
     }
 }
 
 fn main() {
-    make_lines();
-    straight_lines();
-    walk_lines();
-    far_lines();
-    length_lines();
-    number_lines();
-    byte_lines();
+    let rows = printing::read();
+    let mut i: u64 = 0;
+    while i < rows {
+        line(printing::read());
+        i += 1;
+    }
 }

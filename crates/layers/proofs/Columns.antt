@@ -21,13 +21,16 @@ unfoldable pub same₃ : (f g : ℕ → ℕ → ℕ → ℕ) → Bool
 same₃ f g = same (λ n. f n 0 0) (λ n. g n 0 0) && (same (λ n. f 0 n 0) (λ n. g 0 n 0) && same (λ n. f 0 0 n) (λ n. g 0 0 n))
 
 split₃ : (f : ℕ → ℕ → ℕ → ℕ) → Linear₃ f → (x y z : ℕ) → f x y z ≡ f x 0 0 ⊕ (f 0 y 0 ⊕ f 0 0 z)
-split₃ f l x y z = ap₂ (λ (u v : ℕ). f u v z) (sym (zero-right x)) refl ∙ l x 0 0 0 y z ∙ ap (bitXor (f x 0 0)) (ap (λ (u : ℕ). f 0 u z) (sym (zero-right y)) ∙ l 0 y 0 0 0 z)
+split₃ f l x y z =
+    ap₂ (λ (u v : ℕ). f u v z) (sym (zero-right x)) refl ∙ l x 0 0 0 y z
+    ∙ ap (bitXor (f x 0 0)) (ap (λ (u : ℕ). f 0 u z) (sym (zero-right y)) ∙ l 0 y 0 0 0 z)
 
 pub rowTimes-linear : (i : ℕ) → Linear₃ (rowTimes i)
 rowTimes-linear i x y z u v w = simp (times-right, assoc, left-comm)
 
 -- two such maps that agree at the powers of two in each place agree at all bytes
-pub agree₃ : (f g : ℕ → ℕ → ℕ → ℕ) → Linear₃ f → Linear₃ g → T (same₃ f g) → (x y z : ℕ) → x < 256 → y < 256 → z < 256 → f x y z ≡ g x y z
+pub agree₃ : (f g : ℕ → ℕ → ℕ → ℕ) → Linear₃ f → Linear₃ g → T (same₃ f g)
+    → (x y z : ℕ) → x < 256 → y < 256 → z < 256 → f x y z ≡ g x y z
 unfolding same₃
 agree₃ f g lf lg t x y z hx hy hz =
     let first = same (λ n. f n 0 0) (λ n. g n 0 0) in
@@ -90,4 +93,4 @@ made-linear (suc (suc i)) x y z u v w = simp (times-right, assoc, left-comm)
 
 pub made-is : (i : ℕ) → i < 3 → (x y z : ℕ) → x < 256 → y < 256 → z < 256 → made i x y z ≡ rowTimes i x y z
 unfolding times product reduced same same₃
-made-is i h x y z hx hy hz = agree₃ (made i) (rowTimes i) (made-linear i) (rowTimes-linear i) (passed 3 (λ i. same₃ (made i) (rowTimes i)) tt i h) x y z hx hy hz
+made-is i h = agree₃ (made i) (rowTimes i) (made-linear i) (rowTimes-linear i) (passed 3 (λ i. same₃ (made i) (rowTimes i)) tt i h)

@@ -34,7 +34,8 @@ pub substituted-permuted : (a : State) → substituted (permuted a) ≡ permuted
 substituted-permuted a = refl
 
 pub added-added : {a k : State} → IsState a → IsState k → added k (added k a) ≡ a
-added-added (built f h) (built g l) = build-path {f = λ i j. (f i j ⊕ g i j) ⊕ g i j} {g = f} (λ i j. assoc (f i j) (g i j) (g i j) ∙ ap (bitXor (f i j)) (self (g i j)) ∙ zero-right (f i j))
+added-added (built f h) (built g l) = build-path {f = λ i j. (f i j ⊕ g i j) ⊕ g i j} {g = f}
+    (λ i j. assoc (f i j) (g i j) (g i j) ∙ ap (bitXor (f i j)) (self (g i j)) ∙ zero-right (f i j))
 
 pub diffused-diffused : {a : State} → IsState a → diffused (diffused a) ≡ a
 unfolding twice

@@ -57,7 +57,8 @@ past : (b out : List ℕ) (s : ℕ) → length b ≡ 12 → drop (12 * (s + 1)) 
 past b out s h =
     let e : 12 * (s + 1) ≡ length b + 12 * s = omega arith in
     let f : 12 + 12 * s ≡ 12 * (s + 1) = omega arith in
-    ap (λ (n : ℕ). drop n (b ++ drop 12 out)) e ∙ drop-append-add b (drop 12 out) (12 * s) ∙ drop-drop (12 * s) 12 out ∙ ap (λ (n : ℕ). drop n out) f
+    ap (λ (n : ℕ). drop n (b ++ drop 12 out)) e ∙ drop-append-add b (drop 12 out) (12 * s)
+    ∙ drop-drop (12 * s) 12 out ∙ ap (λ (n : ℕ). drop n out) f
 
 pub front-whole : (key out₀ out : List ℕ) (k : State) (s : ℕ) → out ≡ bytesOf k ++ drop 12 out₀ → front key s out ≡ front key s out₀
 unfolding front

@@ -6,7 +6,7 @@ use Prim.Native.Nat.{ℕ, _*_}
 use native.Mathlib.Omega.{arith}
 use lib.ListN.{length}
 use Rattle.layers.specs.State.{State}
-use Rattle.sizes.specs.Sizes.{keyLength, sizeOf}
+use Rattle.sizes.specs.Sizes.{keyLength, tOf}
 use Rattle.schedule.specs.Columns.{padded}
 use Rattle.schedule.specs.Stages.{stage, subkeyOf}
 use Rattle.sizes.proofs.Keys.{a-key}
@@ -16,9 +16,9 @@ use Rattle.lists.specs.Lists.{subkey}
 
 -- the code's subkey is the key's
 pub selected : (key : List ℕ) → keyLength (length key) ≡ true → (s : ℕ) (k : List ℕ) (r : State)
-    → k ≡ padded (stage (sizeOf (length key)) key s) → r ≡ subkeyOf k → r ≡ subkey key s
+    → k ≡ padded (stage (tOf (length key)) key s) → r ≡ subkeyOf k → r ≡ subkey key s
 selected key h s k r ek er =
-    let t = sizeOf (length key) in
+    let t = tOf (length key) in
     er ∙ ap subkeyOf ek
     ∙ subkey-agrees (2 * t) (padded (stage t key s)) (stage t key s) (omega (arith, a-key (length key) h .sized .least))
     (padded-agrees (2 * t) (stage t key s) (length-stage t key (key-length key h) s))

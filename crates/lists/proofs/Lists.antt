@@ -2,31 +2,30 @@
 use mathlib.Core.Path.{_≡_, sym, ap, _∙_}
 use mathlib.Core.Bool.{true}
 use mathlib.Core.List.{List, _++_}
-use Prim.Native.Nat.{ℕ, zero, suc, _+_, _-_, _*_, _≤_, _<_}
+use Prim.Native.Nat.{ℕ, zero, suc, _+_, _*_, _≤_, _<_}
 use native.Mathlib.Omega.{arith}
 use native.Mathlib.Numerals.{add-one}
-use lib.Dec.{leb}
 use lib.ListN.{length, take}
 use lib.Seq.{take-at}
-use borrow.Author.Tests.{leb-true}
-use Rattle.refusal.proofs.Tests.{and-first, and-second}
 use Rattle.sbox.specs.Sbox.{sbox}
 use Rattle.sbox.proofs.Laws.{sbox-small}
 use Rattle.layers.specs.State.{State, IsState, built}
 use Rattle.rounds.specs.Rounds.{enciphered, AllStates}
 use Rattle.rounds.proofs.Turned.{length-listed, turned-length, turned-states}
-use Rattle.blocks.specs.Blocks.{listStates, listBytes, AreBytes}
+use Rattle.blocks.specs.Blocks.{listStates, listBytes}
+use Rattle.basics.specs.Bytes.{AreBytes}
 use Rattle.blocks.proofs.RoundTrip.{length-bytes, list-bytes, listed-states}
 use Rattle.schedule.specs.Columns.{cell, IsStage}
-use Rattle.sizes.specs.Sizes.{keyLength, sizeOf, leastRounds, mostRounds, roundsAllowed}
+use Rattle.sizes.specs.Sizes.{keyLength, tOf, roundsAllowed}
 use Rattle.schedule.specs.Stages.{byRow, subkeyOf}
 use Rattle.schedule.proofs.Columns.{as-stage, stage-byte}
 use Rattle.schedule.proofs.Stages.{stage-stage}
 use Rattle.lists.specs.declared.Direction.{Direction}
 use Rattle.lists.specs.declared.Direction.the-variants.{Enciphering, Deciphering}
 use Rattle.lists.specs.Lists.{subkey, subkeys, listFor}
-use Rattle.lists.specs.Sized.{Fits}
+use Rattle.lists.specs.ForProver.{Fits}
 use Rattle.sizes.proofs.Keys.{a-key}
+use Rattle.sizes.proofs.Laws.{limits}
 
 -- ---- what allowed settings say
 pub record Allowed (n rounds : ℕ) : Type 0 where
@@ -37,8 +36,7 @@ pub record Allowed (n rounds : ℕ) : Type 0 where
 pub allowed : (n rounds : ℕ) → keyLength n ≡ true → roundsAllowed n rounds ≡ true → Allowed n rounds
 allowed n rounds h e =
     let k = a-key n h in
-    let low = leb-true (leastRounds (sizeOf n)) rounds (and-first (leb (leastRounds (sizeOf n)) rounds) (leb rounds (mostRounds (sizeOf n))) e) in
-    let high = leb-true rounds (mostRounds (sizeOf n)) (and-second (leb (leastRounds (sizeOf n)) rounds) (leb rounds (mostRounds (sizeOf n))) e) in
+    let l = limits n rounds e in
     record { least = omega (arith, k .sized .least); most = omega (arith, k .is, k .sized .least); key = k .most }
 
 pub fitting : (n rounds room : ℕ) → keyLength n ≡ true → roundsAllowed n rounds ≡ true → 12 * (rounds + 1) ≤ room → Fits n rounds room
@@ -68,12 +66,12 @@ subkey-state n {k} h = built (λ i j. byRow i (sbox (cell k 0 j)) (cell k 1 j) (
     (λ i j. row-byte i (sbox (cell k 0 j)) (cell k 1 j) (cell k 2 j) (sbox-small (cell k 0 j)) (stage-byte n h (1 + 3 * j)) (stage-byte n h (2 + 3 * j)))
 
 module _ (key : List ℕ) (h : keyLength (length key) ≡ true) (b : AreBytes key) where
-  pub key-stage : IsStage (2 * sizeOf (length key)) key
-  key-stage = as-stage (2 * sizeOf (length key)) key (omega (arith, a-key (length key) h .is)) b
+  pub key-stage : IsStage (2 * tOf (length key)) key
+  key-stage = as-stage (2 * tOf (length key)) key (omega (arith, a-key (length key) h .is)) b
 
   states : (R : ℕ) → AllStates (subkeys key R)
   unfolding subkeys
-  states R = listed-states 0 (suc R) (subkey key) (λ s. subkey-state (2 * sizeOf (length key)) (stage-stage (sizeOf (length key)) key-stage s))
+  states R = listed-states 0 (suc R) (subkey key) (λ s. subkey-state (2 * tOf (length key)) (stage-stage (tOf (length key)) key-stage s))
 
   pub states-for : (d : Direction) (R : ℕ) → AllStates (listFor d key R)
   unfolding listFor

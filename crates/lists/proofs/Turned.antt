@@ -81,10 +81,12 @@ module _ (key : List ℕ) (R : ℕ) where
     back-first ek =
         let e : 12 * R + 12 ≡ 12 * (R + 1) = omega arith in
         let z : R - 0 ≡ R = omega arith in
+        let o = overlaid (12 * R) (bytesOf k) out in
+        let rest = drop (12 * (R + 1)) o in
+        let last = ap (λ (x : List ℕ). bytesOf (getD (turned ks) R []) ++ x) (sym ended) ∙ sym (listed R (omega arith)) in
         ap₂ (λ (x y : List ℕ). x ++ (bytesOf k ++ y)) (sym first-take) (drop-drop 12 (12 * R) out ∙ ap (λ (m : ℕ). drop m out) e ∙ sym first-drop)
-        ∙ ap (λ (x : List ℕ). take (12 * R) (overlaid (12 * R) (bytesOf k) out) ++ (x ++ drop (12 * (R + 1)) (overlaid (12 * R) (bytesOf k) out)))
-        (ap bytesOf (ek ∙ sym turned-of-first) ∙ sym (append-nil _) ∙ ap (λ (x : List ℕ). bytesOf (getD (turned ks) R []) ++ x) (sym ended) ∙ sym (listed R (omega arith)))
-        ∙ ap (λ (m : ℕ). take (12 * m) (overlaid (12 * R) (bytesOf k) out) ++ (listBytes (drop m (turned ks)) ++ drop (12 * (R + 1)) (overlaid (12 * R) (bytesOf k) out))) (sym z)
+        ∙ ap (λ (x : List ℕ). take (12 * R) o ++ (x ++ rest)) (ap bytesOf (ek ∙ sym turned-of-first) ∙ sym (append-nil _) ∙ last)
+        ∙ ap (λ (m : ℕ). take (12 * m) o ++ (listBytes (drop m (turned ks)) ++ rest)) (sym z)
 
   -- ---- the next one
   pub back-next : (s : ℕ) (out₀ out : List ℕ) (k : State) → s < R → 12 * (R + 1) ≤ length out₀

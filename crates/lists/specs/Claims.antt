@@ -5,7 +5,8 @@ use mathlib.Core.List.{List}
 use Prim.Native.Nat.{ℕ}
 use lib.ListN.{length}
 use Rattle.rounds.specs.Rounds.{turned}
-use Rattle.blocks.specs.Blocks.{listStates, AreBytes}
+use Rattle.blocks.specs.Blocks.{listStates}
+use Rattle.basics.specs.Bytes.{AreBytes}
 use Rattle.sizes.specs.Sizes.{keyLength, roundsAllowed}
 use Rattle.lists.specs.declared.Direction.the-variants.{Enciphering, Deciphering}
 use Rattle.lists.specs.Lists.{subkeys, prepared}

@@ -1,4 +1,4 @@
 pub mod Lists
-pub mod Sized
+pub mod ForProver
 pub mod Claims
 pub mod KnownAnswers

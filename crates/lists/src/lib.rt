@@ -11,10 +11,11 @@ ghost use Rattle.layers.specs.Layers.{diffused};
 ghost use Rattle.rounds.specs.Rounds.{turned};
 ghost use Rattle.blocks.specs.Blocks.{listBytes};
 ghost use Rattle.lists.specs.Lists.{subkeys, listFor, prepareNumber, prepareOutput};
-ghost use Rattle.lists.specs.Sized.{Fits};
+ghost use Rattle.lists.specs.ForProver.{Fits};
 use blocks::write_state;
 use refusal::Outcome;
 use refusal::Reason;
+use refusal::unless;
 
 // Which way a subkey list is to be used.
 pub enum Direction {
@@ -84,15 +85,15 @@ pub fn prepare(key: &[u8], rounds: u32, direction: Direction, out: &mut [u8]) ->
     ensures { λ r. ⌜ outcomeNumber r ≡ prepareNumber (now (key .entry)) rounds (now (out .entry)) ⌝ }
     ensures { λ _. ⌜ now (out .exit) ≡ prepareOutput direction (now (key .entry)) rounds (now (out .entry)) ⌝ }
 {
-    if !sizes::is_key_length(key.len()) {
-        return Outcome::Refused(Reason::KeyLength);
-    }
-    if !sizes::is_round_count(key.len(), rounds) {
-        return Outcome::Refused(Reason::RoundCount);
-    }
     let count = rounds as usize;
-    if out.len() < 12 * (count + 1) {
-        return Outcome::Refused(Reason::OutputTooShort);
+    let settings = settings::try_settings(key.len(), rounds);
+    let tried = unless(
+        settings,
+        Reason::OutputTooShort,
+        12 * (count + 1) <= out.len(),
+    );
+    if refusal::is_refused(tried) {
+        return tried;
     }
     fill_for(direction, key, count, out);
     Outcome::Done

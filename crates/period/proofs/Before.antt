@@ -12,7 +12,7 @@ use Rattle.field.proofs.Computed.{and-left, and-right, all, passed}
 use Rattle.schedule.specs.Columns.{columns, fill, IsStage, filled, columnRule}
 use Rattle.sizes.specs.Sizes.{Sized}
 use Rattle.schedule.specs.Stages.{byRow, moved, linearStep}
-use Rattle.period.specs.Repeated.{repeated}
+use Rattle.basics.specs.Repeated.{repeated}
 use Rattle.period.proofs.Alike.{alike, alike-same}
 
 one-at : ℕ → ℕ → ℕ
@@ -62,7 +62,8 @@ moved-by : (n : ℕ) (x : List ℕ) → T (other n x) → x ≢ one n
 unfolding other
 moved-by n x t e = T-not (alike eqb x (one n)) t (subst (λ (y : List ℕ). T (alike eqb y (one n))) (sym e) (alike-same eqb eqb-refl (one n)))
 
-pub not-before : (t : ℕ) → Sized t → (m : ℕ) → 0 < m → m < 6 * t → (k : List ℕ) × (IsStage (2 * t) k × (repeated m (linearStep (2 * t)) k ≢ k))
+pub not-before : (t : ℕ) → Sized t → (m : ℕ) → 0 < m → m < 6 * t
+    → (k : List ℕ) × (IsStage (2 * t) k × (repeated m (linearStep (2 * t)) k ≢ k))
 unfolding one stays-away
 not-before t z zero p q = absurd (not-suc-le-zero p)
 not-before t z (suc m) p q =

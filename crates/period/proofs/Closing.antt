@@ -11,7 +11,7 @@ use Rattle.schedule.specs.Stages.{linearStep, constant, stage, zeros, closingSu
 use Rattle.schedule.proofs.Columns.{fill-path}
 use Rattle.schedule.proofs.Steps.{plus-fill, plus-stage, step-stage, step-plus, plus-assoc, plus-undone}
 use Rattle.schedule.proofs.Stages.{constant-stage, zeros-stage, stage-stage}
-use Rattle.period.specs.Repeated.{repeated}
+use Rattle.basics.specs.Repeated.{repeated}
 use Rattle.period.proofs.Home.{period}
 
 pub repeated-stage : (n m : ℕ) {k : List ℕ} → IsStage n k → IsStage n (repeated m (linearStep n) k)

@@ -18,7 +18,7 @@ use Rattle.schedule.specs.Columns.{cell, columns, fill, IsStage, filled, column
 use Rattle.sizes.specs.Sizes.{Sized}
 use Rattle.schedule.specs.Stages.{next, previous, byRow, moved, rotated, linearStep}
 use Rattle.schedule.proofs.Columns.{fill-path, cell-fill}
-use Rattle.period.specs.Repeated.{repeated}
+use Rattle.basics.specs.Repeated.{repeated}
 use Rattle.period.proofs.Alike.{alike, alike-sound}
 
 -- ---- the numbers 0, 1, c and c + 1
@@ -81,7 +81,9 @@ unfolding term c-times
 term-c o x h = sym (times-zero cubeRoot)
 term-c i x h = refl
 term-c c x h = sym (square x h)
-term-c d x h = sym (times-right cubeRoot x (times cubeRoot x) ∙ ap (bitXor (times cubeRoot x)) (square x h) ∙ ap (bitXor (times cubeRoot x)) (comm x (times cubeRoot x)) ∙ cancel (times cubeRoot x) x)
+term-c d x h =
+    let y = times cubeRoot x in
+    sym (times-right cubeRoot x y ∙ ap (bitXor y) (square x h) ∙ ap (bitXor y) (comm x y) ∙ cancel y x)
 
 -- ---- sums of multiples
 sum : List Four → List Four → List Four
@@ -178,7 +180,8 @@ module _ (xs : List ℕ) where
         ∙ ap₂ bitXor (sym (eval-cell k r j))
         (value-c xs small (sum (cellₗ k 0 j) (sum (cellₗ k 1 j) (cellₗ k 2 j)))
         ∙ ap (times cubeRoot) (value-sum xs (cellₗ k 0 j) (sum (cellₗ k 1 j) (cellₗ k 2 j))
-        ∙ ap₂ bitXor (sym (eval-cell k 0 j)) (value-sum xs (cellₗ k 1 j) (cellₗ k 2 j) ∙ ap₂ bitXor (sym (eval-cell k 1 j)) (sym (eval-cell k 2 j))))))
+        ∙ ap₂ bitXor (sym (eval-cell k 0 j)) (value-sum xs (cellₗ k 1 j) (cellₗ k 2 j)
+        ∙ ap₂ bitXor (sym (eval-cell k 1 j)) (sym (eval-cell k 2 j))))))
 
     eval-step : (n : ℕ) (k : List (List Four)) → eval (stepₗ n k) ≡ linearStep n (eval k)
     unfolding stepₗ linearStep

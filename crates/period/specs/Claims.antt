@@ -7,7 +7,7 @@ use Prim.Native.Nat.{ℕ, _-_, _*_, _<_}
 use Rattle.schedule.specs.Columns.{IsStage, plus}
 use Rattle.sizes.specs.Sizes.{Sized}
 use Rattle.schedule.specs.Stages.{linearStep, stage, closingSum}
-use Rattle.period.specs.Repeated.{repeated}
+use Rattle.basics.specs.Repeated.{repeated}
 
 -- the linear step alone has period exactly 6t: its 6t-th power is the identity on every stage, and no smaller positive power is
 pub record Period (t : ℕ) : Type 0 where

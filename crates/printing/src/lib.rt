@@ -1,5 +1,7 @@
-// What the test programs share: pseudo-random bytes by the rule of reference/README.md, and printing in its format.
+// What the test programs share: pseudo-random bytes by the rule of reference/README.md, printing in its format, and rows of numbers read
+// from standard input.
 
+use libc::STDIN_FILENO;
 use libc::STDOUT_FILENO;
 
 // The generator's next number.
@@ -89,6 +91,44 @@ pub fn decimal(n: u64) {
     io::print_decimal(STDOUT_FILENO, n);
 }
 
+pub fn number(n: u64) {
+    space();
+    decimal(n);
+}
+
+// The next byte of the input, or 0 where it has ended.
+fn next_byte() -> u8 {
+    let mut b = [0u8; 1];
+    io::read_full(STDIN_FILENO, &mut b);
+    b[0]
+}
+
+// The next number of the input: its digits, up to the byte after them. It is below 2^64 - 6.
+pub fn read() -> u64 {
+    let mut n: u64 = 0;
+    let mut i: u32 = 0;
+    while i < 21 {
+        let b = next_byte();
+        if b < 48 || 57 < b {
+            return n;
+        }
+        n = n % 1844674407370955161 * 10 + ((b - 48) % 10) as u64;
+        i += 1;
+    }
+    n
+}
+
+// The next number of the input, printed: as a length, and as a number of 32 bits.
+pub fn echo() -> usize {
+    let n = read();
+    number(n);
+    n as usize
+}
+
+pub fn echo_u32() -> u32 {
+    (echo() % 4294967296) as u32
+}
+
 // Every byte of a slice from an index on is still the mark that was put there.
 pub fn all_marks(bytes: &[u8], from: usize, mark: u8) -> bool {
     let mut i = from;
@@ -99,6 +139,15 @@ pub fn all_marks(bytes: &[u8], from: usize, mark: u8) -> bool {
         i += 1;
     }
     true
+}
+
+// The end of a line: whether every byte from an index on was left alone.
+pub fn kept(bytes: &[u8], from: usize, mark: u8) {
+    if all_marks(bytes, from, mark) {
+        word(b" kept\n");
+    } else {
+        word(b" changed\n");
+    }
 }
 
 // The first n bytes of a slice, or all of it where it has fewer.

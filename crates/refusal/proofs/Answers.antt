@@ -2,11 +2,11 @@
 -- with as `answered` says.
 use mathlib.Core.Path.{_≡_, refl, sym, ap, _∙_}
 use mathlib.Core.Bool.{Bool, true, false, cond}
-use mathlib.Core.List.{List, _++_}
+use mathlib.Core.List.{List, _++_, append-nil}
 use Prim.Native.Nat.{ℕ, _≤_, _<_}
 use native.Mathlib.Omega.{arith}
 use lib.Dec.{eqb}
-use lib.ListN.{length, take, drop, length-append}
+use lib.ListN.{length, take, drop, length-append, drop-of-length-le}
 use lib.Seq.{take-at}
 use borrow.Author.Tests.{eq-eqb, ne-eqb, eqb-true}
 use Rattle.refusal.specs.Tries.{Try, first, written, answered}
@@ -21,6 +21,11 @@ pub put : (n : ℕ) (bytes out : List ℕ) → n ≡ 0 → bytes ++ drop (length
 unfolding written
 put n bytes out e = sym (ap (λ (b : Bool). cond b (bytes ++ drop (length bytes) out) out) (eq-eqb n 0 e))
 
+-- where the bytes fill the output, nothing stands after them
+pub put-all : (n : ℕ) (bytes out : List ℕ) → n ≡ 0 → length out ≤ length bytes → bytes ≡ written n bytes out
+put-all n bytes out e h =
+    sym (append-nil bytes) ∙ ap (λ (x : List ℕ). bytes ++ x) (sym (drop-of-length-le out {i = length bytes} h)) ∙ put n bytes out e
+
 -- an output of a call that did not refuse starts with the bytes
 pub starts : (n : ℕ) (bytes out : List ℕ) → n ≡ 0
     → (length bytes ≤ length (written n bytes out)) × (take (length bytes) (written n bytes out) ≡ bytes)
@@ -33,10 +38,6 @@ starts n bytes out e =
 -- a refusal with the number n
 pub refuses : (ts : List Try) (n : ℕ) (bytes out : List ℕ) → 0 < n → first ts ≡ n → (n ≡ first ts) × (out ≡ written (first ts) bytes out)
 refuses ts n bytes out h e = (sym e, kept n bytes out h ∙ ap (λ (m : ℕ). written m bytes out) (sym e))
-
--- no refusal
-pub succeeds : (ts : List Try) (bytes out : List ℕ) → first ts ≡ 0 → (0 ≡ first ts) × (bytes ++ drop (length bytes) out ≡ written (first ts) bytes out)
-succeeds ts bytes out e = (sym e, put (first ts) bytes out e)
 
 -- ---- calls by value
 pub answer-refused : {A : Type 0} (ts : List Try) (n : ℕ) (done refused : A) → 0 < n → first ts ≡ n → refused ≡ answered (first ts) done refused

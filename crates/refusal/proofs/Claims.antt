@@ -4,7 +4,9 @@ use mathlib.Core.Bool.{cond}
 use Prim.Native.Nat.{ℕ}
 use lib.Dec.{eqb}
 use Rattle.refusal.specs.declared.Reason.{Reason}
-use Rattle.refusal.specs.declared.Reason.the-variants.{KeyLength, RoundCount, InputLength, OutputTooShort, StageOrList, Contractor, Right, NotAGrant, OtherBlock, OtherRight, NotInStanding, InStanding, CountSpent, OtherCount, BrokenHolder}
+use Rattle.refusal.specs.declared.Reason.the-variants.{KeyLength, RoundCount, InputLength, OutputTooShort, StageOrList, Contractor, UnknownRight}
+use Rattle.refusal.specs.declared.Reason.the-variants.{NotAGrant, OtherBlock, OtherRight, NotInStanding, InStanding, CountSpent, OtherCount}
+use Rattle.refusal.specs.declared.Reason.the-variants.{BrokenHolder}
 use Rattle.refusal.specs.declared.Outcome.{Outcome}
 use Rattle.refusal.specs.declared.Outcome.the-variants.{Done, Refused}
 use Rattle.refusal.specs.Reasons.{reasonNumber, outcomeNumber}
@@ -15,7 +17,7 @@ use Rattle.refusal.proofs.Tries.{none-given, none-holds, first-of}
 reason : ℕ → Reason
 reason n =
     cond (eqb n 1) KeyLength (cond (eqb n 2) RoundCount (cond (eqb n 3) InputLength (cond (eqb n 4) OutputTooShort
-    (cond (eqb n 5) StageOrList (cond (eqb n 6) Contractor (cond (eqb n 7) Right (cond (eqb n 8) NotAGrant
+    (cond (eqb n 5) StageOrList (cond (eqb n 6) Contractor (cond (eqb n 7) UnknownRight (cond (eqb n 8) NotAGrant
     (cond (eqb n 9) OtherBlock (cond (eqb n 10) OtherRight (cond (eqb n 20) NotInStanding (cond (eqb n 21) InStanding
     (cond (eqb n 22) CountSpent (cond (eqb n 23) OtherCount BrokenHolder)))))))))))))
 
@@ -27,7 +29,7 @@ reason-number InputLength = refl
 reason-number OutputTooShort = refl
 reason-number StageOrList = refl
 reason-number Contractor = refl
-reason-number Right = refl
+reason-number UnknownRight = refl
 reason-number NotAGrant = refl
 reason-number OtherBlock = refl
 reason-number OtherRight = refl
@@ -53,7 +55,7 @@ not-zero InputLength = refl
 not-zero OutputTooShort = refl
 not-zero StageOrList = refl
 not-zero Contractor = refl
-not-zero Right = refl
+not-zero UnknownRight = refl
 not-zero NotAGrant = refl
 not-zero OtherBlock = refl
 not-zero OtherRight = refl

@@ -1,5 +1,5 @@
-pub mod Tests
 pub mod Reasons
 pub mod Tries
 pub mod Answers
+pub mod Ladder
 pub mod Claims

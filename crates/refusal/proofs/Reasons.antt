@@ -2,7 +2,9 @@
 use Prim.Native.Nat.{_≤_, _<_}
 use native.Mathlib.Omega.{arith}
 use Rattle.refusal.specs.declared.Reason.{Reason}
-use Rattle.refusal.specs.declared.Reason.the-variants.{KeyLength, RoundCount, InputLength, OutputTooShort, StageOrList, Contractor, Right, NotAGrant, OtherBlock, OtherRight, NotInStanding, InStanding, CountSpent, OtherCount, BrokenHolder}
+use Rattle.refusal.specs.declared.Reason.the-variants.{KeyLength, RoundCount, InputLength, OutputTooShort, StageOrList, Contractor, UnknownRight}
+use Rattle.refusal.specs.declared.Reason.the-variants.{NotAGrant, OtherBlock, OtherRight, NotInStanding, InStanding, CountSpent, OtherCount}
+use Rattle.refusal.specs.declared.Reason.the-variants.{BrokenHolder}
 use Rattle.refusal.specs.Reasons.{reasonNumber}
 
 pub reason-positive : (r : Reason) → 0 < reasonNumber r
@@ -12,7 +14,7 @@ reason-positive InputLength = omega arith
 reason-positive OutputTooShort = omega arith
 reason-positive StageOrList = omega arith
 reason-positive Contractor = omega arith
-reason-positive Right = omega arith
+reason-positive UnknownRight = omega arith
 reason-positive NotAGrant = omega arith
 reason-positive OtherBlock = omega arith
 reason-positive OtherRight = omega arith
@@ -29,7 +31,7 @@ reason-most InputLength = omega arith
 reason-most OutputTooShort = omega arith
 reason-most StageOrList = omega arith
 reason-most Contractor = omega arith
-reason-most Right = omega arith
+reason-most UnknownRight = omega arith
 reason-most NotAGrant = omega arith
 reason-most OtherBlock = omega arith
 reason-most OtherRight = omega arith

@@ -40,3 +40,9 @@ pub record FirstOf (ts : List Try) : Type 0 where
 
 unfoldable pub GivenIsFirst : Type 0
 GivenIsFirst = (ts : List Try) → 0 < first ts → FirstOf ts
+
+-- all of this of one list: each refusal has its reason, and the first in order is given
+pub record Ordered (ts : List Try) : Type 0 where
+  pub none-given : NoneHolds ts → first ts ≡ 0
+  pub none-holds : first ts ≡ 0 → NoneHolds ts
+  pub given-first : 0 < first ts → FirstOf ts

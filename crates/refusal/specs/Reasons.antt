@@ -1,7 +1,9 @@
 -- The numbers of the reasons: document 01, "Reasons found in the input" and "Reasons found in the state".
 use Prim.Native.Nat.{ℕ}
 use Rattle.refusal.specs.declared.Reason.{Reason}
-use Rattle.refusal.specs.declared.Reason.the-variants.{KeyLength, RoundCount, InputLength, OutputTooShort, StageOrList, Contractor, Right, NotAGrant, OtherBlock, OtherRight, NotInStanding, InStanding, CountSpent, OtherCount, BrokenHolder}
+use Rattle.refusal.specs.declared.Reason.the-variants.{KeyLength, RoundCount, InputLength, OutputTooShort, StageOrList, Contractor, UnknownRight}
+use Rattle.refusal.specs.declared.Reason.the-variants.{NotAGrant, OtherBlock, OtherRight, NotInStanding, InStanding, CountSpent, OtherCount}
+use Rattle.refusal.specs.declared.Reason.the-variants.{BrokenHolder}
 use Rattle.refusal.specs.declared.Outcome.{Outcome}
 use Rattle.refusal.specs.declared.Outcome.the-variants.{Done, Refused}
 
@@ -19,7 +21,7 @@ reasonNumber StageOrList = 5
 -- contractor outside 1 to 200
 reasonNumber Contractor = 6
 -- right neither 1 nor 2
-reasonNumber Right = 7
+reasonNumber UnknownRight = 7
 -- deciphered bytes have a wrong mark, contractor or right
 reasonNumber NotAGrant = 8
 -- grant for another size block

@@ -1,9 +1,9 @@
 -- The order of refusals: document 01's order lines as lists of tries. A call tries its reasons in order, and the first that holds is
 -- the one given; where none holds, it does not refuse.
-use mathlib.Core.Bool.{Bool, true, cond}
+use mathlib.Core.Bool.{Bool, true, false, cond}
 use mathlib.Core.Path.{_≡_}
 use mathlib.Core.List.{List, [], _∷_, _++_}
-use Prim.Native.Nat.{ℕ}
+use Prim.Native.Nat.{ℕ, zero, suc}
 use lib.Dec.{eqb}
 use lib.ListN.{length, drop}
 
@@ -20,6 +20,16 @@ _unless_ n b = record { number = n; passes = b }
 unfoldable pub first : List Try → ℕ
 first [] = 0
 first (t ∷ ts) = cond (t .passes) (first ts) (t .number)
+
+-- tries that go on from a number: it stays where it is a refusal's, and else the first reason of the list that holds gives it
+unfoldable pub after : ℕ → List Try → ℕ
+after zero ts = first ts
+after (suc n) ts = suc n
+
+-- a number that is a refusal's
+unfoldable pub isRefused : ℕ → Bool
+isRefused zero = false
+isRefused (suc n) = true
 
 -- no reason of a list holds
 abbrev pub NoneHolds : List Try → Type 0

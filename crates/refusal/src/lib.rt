@@ -1,7 +1,9 @@
 // Why a call refuses: the reasons by name, their numbers, and the answer of a call that either does its work or refuses.
 
 ghost use mathlib.Core.Path.{_≡_};
+ghost use mathlib.Core.List.{[], _∷_};
 ghost use Rattle.refusal.specs.Reasons.{reasonNumber, outcomeNumber};
+ghost use Rattle.refusal.specs.Tries.{_unless_, after, isRefused};
 
 // Document 01's reasons found in the input and in the state.
 pub enum Reason {
@@ -11,7 +13,7 @@ pub enum Reason {
     OutputTooShort,
     StageOrList,
     Contractor,
-    Right,
+    UnknownRight,
     NotAGrant,
     OtherBlock,
     OtherRight,
@@ -39,7 +41,7 @@ pub fn reason_number(r: Reason) -> u32
         Reason::OutputTooShort => 4,
         Reason::StageOrList => 5,
         Reason::Contractor => 6,
-        Reason::Right => 7,
+        Reason::UnknownRight => 7,
         Reason::NotAGrant => 8,
         Reason::OtherBlock => 9,
         Reason::OtherRight => 10,
@@ -58,5 +60,27 @@ pub fn outcome_number(o: Outcome) -> u32
     match o {
         Outcome::Done => 0,
         Outcome::Refused(r) => reason_number(r),
+    }
+}
+
+// One try more: the answer so far, unless the work would have been done and the test does not pass.
+pub fn unless(prior: Outcome, reason: Reason, passes: bool) -> Outcome
+    ensures { λ r. ⌜ outcomeNumber r ≡ after (outcomeNumber prior) ((reasonNumber reason unless passes) ∷ []) ⌝ }
+{
+    if passes {
+        return prior;
+    }
+    match prior {
+        Outcome::Done => Outcome::Refused(reason),
+        Outcome::Refused(earlier) => Outcome::Refused(earlier),
+    }
+}
+
+pub fn is_refused(o: Outcome) -> bool
+    ensures { λ r. ⌜ r ≡ isRefused (outcomeNumber o) ⌝ }
+{
+    match o {
+        Outcome::Done => false,
+        Outcome::Refused(reason) => true,
     }
 }

@@ -1,49 +1,31 @@
 -- A grant's plain bytes name what was written in them, and twelve bytes that are a whole grant are the plain bytes of what they name.
-use mathlib.Core.Path.{_≡_, refl, sym, ap₂, _∙_}
+use mathlib.Core.Path.{_≡_, refl, sym, _∙_}
 use mathlib.Core.Bool.{true, _&&_}
 use mathlib.Core.List.{List, [], _∷_}
-use Prim.Native.Nat.{ℕ, zero, suc, _+_, _*_, _/_, _%_, _<_}
-use native.Mathlib.Omega.{arith}
+use Prim.Native.Nat.{ℕ, zero, suc, _<_}
 use lib.Dec.{eqb, lit<}
 use lib.ListN.{length, getD}
 use borrow.Author.Tests.{eqb-true}
-use Rattle.refusal.proofs.Tests.{and-first, and-second}
+use Rattle.basics.proofs.Tests.{and-first, and-second}
 use Rattle.layers.specs.State.{State, IsState, built}
-use Rattle.blocks.specs.Blocks.{AreBytes, bytesOf}
+use Rattle.blocks.specs.Blocks.{bytesOf}
+use Rattle.basics.specs.Bytes.{AreBytes}
 use Rattle.blocks.proofs.RoundTrip.{bytes-state}
-use Rattle.grant.specs.Grants.{plainGrant, contractorIn, countIn, blockIn, rightIn, isMarked}
-
--- a number from its four bytes
-sum : (b x y z r₀ r₁ r₂ r₃ : ℕ) → 256 * x + r₀ ≡ b → 256 * y + r₁ ≡ x → 256 * z + r₂ ≡ y → r₃ ≡ z → 16777216 * r₃ + (65536 * r₂ + (256 * r₁ + r₀)) ≡ b
-sum b x y z r₀ r₁ r₂ r₃ e₀ e₁ e₂ e₃ = omega arith
-
-split : (n : ℕ) → 256 * (n / 256) + n % 256 ≡ n
-split n = omega arith
-
--- the parts of a number, as quotients of quotients
-half : (b : ℕ) → b / 65536 ≡ b / 256 / 256
-half b = omega arith
-
-quarter : (b : ℕ) → b / 16777216 ≡ b / 256 / 256 / 256
-quarter b = omega arith
-
-top : (b : ℕ) → b < 4294967296 → b / 256 / 256 / 256 % 256 ≡ b / 256 / 256 / 256
-top b h = omega arith
+use Rattle.numbers.proofs.Laws.{two-again, four-again, high, low, four₀, four₁, four₂, four₃}
+use Rattle.grant.specs.Grants.{plainGrant, contractorIn, countIn, sizeBlockIn, rightIn, isMarked}
 
 -- ---- read what was written
 pub reads-contractor : (c n b r : ℕ) → c < 65536 → contractorIn (plainGrant c n b r) ≡ c
 unfolding contractorIn plainGrant
-reads-contractor c n b r h = omega arith
+reads-contractor c n b r h = two-again c h
 
 pub reads-count : (c n b r : ℕ) → n < 65536 → countIn (plainGrant c n b r) ≡ n
 unfolding countIn plainGrant
-reads-count c n b r h = omega arith
+reads-count c n b r h = two-again n h
 
-pub reads-block : (c n b r : ℕ) → b < 4294967296 → blockIn (plainGrant c n b r) ≡ b
-unfolding blockIn plainGrant
-reads-block c n b r h =
-    ap₂ (λ (x y : ℕ). 16777216 * (x % 256) + (65536 * (y % 256) + (256 * (b / 256 % 256) + b % 256))) (quarter b) (half b)
-    ∙ sum b (b / 256) (b / 256 / 256) (b / 256 / 256 / 256) (b % 256) (b / 256 % 256) (b / 256 / 256 % 256) _ (split b) (split (b / 256)) (split (b / 256 / 256)) (top b h)
+pub reads-block : (c n b r : ℕ) → b < 4294967296 → sizeBlockIn (plainGrant c n b r) ≡ b
+unfolding sizeBlockIn plainGrant
+reads-block c n b r h = four-again b h
 
 pub reads-right : (c n b r : ℕ) → rightIn (plainGrant c n b r) ≡ r
 unfolding plainGrant
@@ -54,25 +36,6 @@ unfolding isMarked plainGrant
 reads-mark c n b r = refl
 
 -- ---- written again
--- four bytes and the number that they are
-high : (x y : ℕ) → x < 256 → y < 256 → (256 * x + y) / 256 % 256 ≡ x
-high x y hx hy = omega arith
-
-low : (x y : ℕ) → y < 256 → (256 * x + y) % 256 ≡ y
-low x y hy = omega arith
-
-four₀ : (a b c d : ℕ) → a < 256 → b < 256 → c < 256 → d < 256 → (16777216 * a + (65536 * b + (256 * c + d))) / 16777216 % 256 ≡ a
-four₀ a b c d ha hb hc hd = omega arith
-
-four₁ : (a b c d : ℕ) → a < 256 → b < 256 → c < 256 → d < 256 → (16777216 * a + (65536 * b + (256 * c + d))) / 65536 % 256 ≡ b
-four₁ a b c d ha hb hc hd = omega arith
-
-four₂ : (a b c d : ℕ) → c < 256 → d < 256 → (16777216 * a + (65536 * b + (256 * c + d))) / 256 % 256 ≡ c
-four₂ a b c d hc hd = omega arith
-
-four₃ : (a b c d : ℕ) → d < 256 → (16777216 * a + (65536 * b + (256 * c + d))) % 256 ≡ d
-four₃ a b c d hd = omega arith
-
 marks : (p : List ℕ) → isMarked p ≡ true → (getD p 9 0 ≡ 0x47) × ((getD p 10 0 ≡ 0x52) × (getD p 11 0 ≡ 0x44))
 unfolding isMarked
 marks p e =
@@ -83,8 +46,9 @@ marks p e =
     (eqb-true _ _ (and-first a (b && c) e), (eqb-true _ _ (and-first b c r), eqb-true _ _ (and-second b c r)))
 
 -- twelve marked bytes are the plain bytes of what they name
-pub written-again : (p : List ℕ) → length p ≡ 12 → AreBytes p → isMarked p ≡ true → plainGrant (contractorIn p) (countIn p) (blockIn p) (rightIn p) ≡ p
-unfolding plainGrant contractorIn countIn blockIn
+pub written-again : (p : List ℕ) → length p ≡ 12 → AreBytes p → isMarked p ≡ true
+    → plainGrant (contractorIn p) (countIn p) (sizeBlockIn p) (rightIn p) ≡ p
+unfolding plainGrant contractorIn countIn sizeBlockIn
 written-again p l h m =
     let x : ℕ → ℕ = λ i. getD p i 0 in
     let e = marks p m in

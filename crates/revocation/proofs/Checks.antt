@@ -5,15 +5,16 @@ use mathlib.Core.Bool.{Bool, true, false, _||_}
 use mathlib.Core.List.{List}
 use Prim.Native.Nat.{ℕ, _≤_, _<_}
 use native.Mathlib.Omega.{arith}
-use lib.Dec.{eqb, lit<}
+use lib.Dec.{eqb}
 use lib.ListN.{length}
 use borrow.Author.Tests.{eqb-true, eq-eqb}
 use Rattle.refusal.specs.Tries.{NoneHolds}
-use Rattle.refusal.specs.Claims.{Numbered}
-use Rattle.refusal.proofs.Tries.{none-holds, none-given}
+use Rattle.refusal.proofs.Tries.{none-given}
+use Rattle.refusal.proofs.Ladder.{all-pass}
 use Rattle.refusal.proofs.Answers.{answer-done}
 use Rattle.rounds.proofs.Restored.{enciphered-state}
-use Rattle.blocks.specs.Blocks.{AreBytes, stateOf}
+use Rattle.blocks.specs.Blocks.{stateOf}
+use Rattle.basics.specs.Bytes.{AreBytes}
 use Rattle.blocks.proofs.RoundTrip.{block-state}
 use Rattle.sizes.specs.Sizes.{keyLength}
 use Rattle.lists.specs.declared.Direction.the-variants.{Deciphering}
@@ -23,7 +24,7 @@ use Rattle.cipher.specs.Cipher.{cipherBlock}
 use Rattle.roll.specs.declared.Roll.{Roll}
 use Rattle.roll.specs.Roll.{isContractor, countOf, inStanding}
 use Rattle.roll.proofs.Contractors.{a-contractor, is-contractor, a-standing, is-standing}
-use Rattle.grant.specs.Grants.{isRight, plainGrant, contractorIn, countIn, blockIn, rightIn, isMarked, isGrant}
+use Rattle.grant.specs.Grants.{isRight, plainGrant, contractorIn, countIn, sizeBlockIn, rightIn, isMarked, isGrant}
 use Rattle.grant.specs.Calls.{openedGrant, checkTries, checkNumber, checkContractor, checkRight}
 use Rattle.grant.proofs.Tests.{a-grant, is-grant}
 use Rattle.revocation.specs.Claims.{Opening, Accepted}
@@ -34,7 +35,8 @@ opened-twelve : (key : List ℕ) (rounds : ℕ) (grant : List ℕ) → length (o
 unfolding openedGrant cipherBlock
 opened-twelve key rounds grant = refl
 
-opened-bytes : (key : List ℕ) → AreBytes key → (rounds : ℕ) (grant : List ℕ) → AreBytes grant → keyLength (length key) ≡ true → AreBytes (openedGrant key rounds grant)
+opened-bytes : (key : List ℕ) → AreBytes key → (rounds : ℕ) (grant : List ℕ) → AreBytes grant → keyLength (length key) ≡ true
+    → AreBytes (openedGrant key rounds grant)
 unfolding openedGrant cipherBlock
 opened-bytes key hk rounds grant hg k =
     state-bytes-small (enciphered-state (listFor Deciphering key rounds) (stateOf grant) (states-for key k hk Deciphering rounds) (block-state grant hg))
@@ -51,15 +53,12 @@ pub is-right : (r : ℕ) → (r ≡ 1) ⊎ (r ≡ 2) → isRight r ≡ true
 is-right r h = elim h [ inl e ↦ ap isRight e | inr e ↦ ap isRight e ]
 
 -- ---- what an accepted check passed
-pub check-numbered : (key : List ℕ) (rounds : ℕ) (roll : Roll) (grant : List ℕ) (block right : ℕ) → Numbered (checkTries key rounds roll grant block right)
-check-numbered key rounds roll grant block right = (lit< tt, (lit< tt, (lit< tt, (lit< tt, (lit< tt, (lit< tt, (lit< tt, (lit< tt, (lit< tt, tt)))))))))
-
 module _ (key : List ℕ) (rounds : ℕ) (roll : Roll) (grant : List ℕ) (block right : ℕ) where
   p : List ℕ
   p = openedGrant key rounds grant
 
   pub passed : checkNumber key rounds roll grant block right ≡ 0 → NoneHolds (checkTries key rounds roll grant block right)
-  passed e = none-holds (checkTries key rounds roll grant block right) (check-numbered key rounds roll grant block right) e
+  passed e = all-pass (checkTries key rounds roll grant block right) refl e
 
   pub opening : AreBytes key → AreBytes grant → checkNumber key rounds roll grant block right ≡ 0 → Opening key rounds roll grant block right
   unfolding p
@@ -71,11 +70,12 @@ module _ (key : List ℕ) (rounds : ℕ) (roll : Roll) (grant : List ℕ) (block
       let q = h .1 .1 .1 .0 in
       let t = h .1 .1 .1 .1 in
       let g = a-grant p (t .0) in
-      let eb = eqb-true (blockIn p) block (t .1 .0) in
+      let eb = eqb-true (sizeBlockIn p) block (t .1 .0) in
       let er = eqb-true (rightIn p) right (t .1 .1 .0) in
       let s = a-standing (countOf roll (contractorIn p)) (t .1 .1 .1 .0) in
       let ec = eqb-true (countIn p) (countOf roll (contractorIn p)) (t .1 .1 .1 .1 .0) in
       let c = a-contractor (contractorIn p) (g .contractor) in
+      let again = written-again p (opened-twelve key rounds grant) (opened-bytes key hk rounds grant hg k) (g .marked) in
       record {
         key-length = k;
         round-count = r;
@@ -83,7 +83,7 @@ module _ (key : List ℕ) (rounds : ℕ) (roll : Roll) (grant : List ℕ) (block
         asked = one-or-two right q;
         contractor = contractorIn p;
         count = countIn p;
-        plain = sym (written-again p (opened-twelve key rounds grant) (opened-bytes key hk rounds grant hg k) (g .marked)) ∙ ap₂ (plainGrant (contractorIn p) (countIn p)) eb er;
+        plain = sym again ∙ ap₂ (plainGrant (contractorIn p) (countIn p)) eb er;
         least = c .least;
         most = c .most;
         on-roll = sym ec;
@@ -91,29 +91,28 @@ module _ (key : List ℕ) (rounds : ℕ) (roll : Roll) (grant : List ℕ) (block
         below = omega (arith, s .below, ec);
       }
 
-  -- what passes where the plain bytes are known
-  module _ (contractor count : ℕ) (plain : openedGrant key rounds grant ≡ plainGrant contractor count block right)
-      (least : 1 ≤ contractor) (most : contractor ≤ 200) (small : count < 65536) (few : block < 4294967296) (asked : isRight right ≡ true) where
-    pub names-contractor : contractorIn (openedGrant key rounds grant) ≡ contractor
-    names-contractor = ap contractorIn plain ∙ reads-contractor contractor count block right (omega arith)
+-- what plain bytes name
+pub record Named (p : List ℕ) (c n b r : ℕ) : Type 0 where
+  pub contractor : contractorIn p ≡ c
+  pub count : countIn p ≡ n
+  pub block : sizeBlockIn p ≡ b
+  pub right : rightIn p ≡ r
+  pub grant : isGrant p ≡ true
 
-    pub names-count : countIn (openedGrant key rounds grant) ≡ count
-    names-count = ap countIn plain ∙ reads-count contractor count block right small
-
-    pub names-block : blockIn (openedGrant key rounds grant) ≡ block
-    names-block = ap blockIn plain ∙ reads-block contractor count block right few
-
-    pub names-right : rightIn (openedGrant key rounds grant) ≡ right
-    names-right = ap rightIn plain ∙ reads-right contractor count block right
-
-    pub names-grant : isGrant (openedGrant key rounds grant) ≡ true
-    names-grant =
-        is-grant (openedGrant key rounds grant)
-        record {
-          marked = ap isMarked plain ∙ reads-mark contractor count block right;
-          contractor = ap isContractor names-contractor ∙ is-contractor contractor record { least = least; most = most };
-          right = ap isRight names-right ∙ asked;
-        }
+pub named : (p : List ℕ) (c n b r : ℕ) → p ≡ plainGrant c n b r
+    → 1 ≤ c → c ≤ 200 → n < 65536 → b < 4294967296 → isRight r ≡ true → Named p c n b r
+named p c n b r plain least most small few asked =
+    let ec = ap contractorIn plain ∙ reads-contractor c n b r (omega arith) in
+    let er = ap rightIn plain ∙ reads-right c n b r in
+    let marked = ap isMarked plain ∙ reads-mark c n b r in
+    let contractor = ap isContractor ec ∙ is-contractor c record { least = least; most = most } in
+    record {
+      contractor = ec;
+      count = ap countIn plain ∙ reads-count c n b r small;
+      block = ap sizeBlockIn plain ∙ reads-block c n b r few;
+      right = er;
+      grant = is-grant p record { marked = marked; contractor = contractor; right = ap isRight er ∙ asked };
+    }
 
 pub accepted : (key : List ℕ) (rounds : ℕ) (roll : Roll) (grant : List ℕ) (block right : ℕ) → block < 4294967296
     → (o : Opening key rounds roll grant block right) → Accepted key rounds roll grant block right (o .contractor)
@@ -123,11 +122,10 @@ accepted key rounds roll grant block right few o =
     let n = o .count in
     let q = is-right right (o .asked) in
     let small : n < 65536 = omega (arith, o .below) in
-    let nc = names-contractor key rounds roll grant block right c n (o .plain) (o .least) (o .most) small few q in
-    let nn = names-count key rounds roll grant block right c n (o .plain) (o .least) (o .most) small few q in
-    let nb = names-block key rounds roll grant block right c n (o .plain) (o .least) (o .most) small few q in
-    let nr = names-right key rounds roll grant block right c n (o .plain) (o .least) (o .most) small few q in
-    let s : countOf roll (contractorIn (openedGrant key rounds grant)) ≡ n = ap (countOf roll) nc ∙ o .on-roll in
+    let p = openedGrant key rounds grant in
+    let m = named p c n block right (o .plain) (o .least) (o .most) small few q in
+    let s : countOf roll (contractorIn p) ≡ n = ap (countOf roll) (m .contractor) ∙ o .on-roll in
+    let stands = is-standing n record { odd = o .odd; below = o .below } in
     let e = none-given (checkTries key rounds roll grant block right) (
       o .key-length,
       (
@@ -137,8 +135,8 @@ accepted key rounds roll grant block right few o =
           (
             q,
             (
-              names-grant key rounds roll grant block right c n (o .plain) (o .least) (o .most) small few q,
-              (eq-eqb _ block nb, (eq-eqb _ right nr, (ap inStanding s ∙ is-standing n record { odd = o .odd; below = o .below }, (eq-eqb _ _ (nn ∙ sym s), tt)))),
+              m .grant,
+              (eq-eqb _ block (m .block), (eq-eqb _ right (m .right), (ap inStanding s ∙ stands, (eq-eqb _ _ (m .count ∙ sym s), tt)))),
             ),
           ),
         ),
@@ -146,6 +144,6 @@ accepted key rounds roll grant block right few o =
     ) in
     record {
       number = e;
-      answers-contractor = sym (answer-done (checkTries key rounds roll grant block right) (contractorIn (openedGrant key rounds grant)) 0 e) ∙ nc;
-      answers-right = sym (answer-done (checkTries key rounds roll grant block right) (rightIn (openedGrant key rounds grant)) 0 e) ∙ nr;
+      answers-contractor = sym (answer-done (checkTries key rounds roll grant block right) (contractorIn p) 0 e) ∙ m .contractor;
+      answers-right = sym (answer-done (checkTries key rounds roll grant block right) (rightIn p) 0 e) ∙ m .right;
     }

@@ -1,19 +1,16 @@
 -- A term of each type of specs/Claims.antt.
 use mathlib.Core.Path.{refl}
-use Prim.Native.Nat.{_<_}
 use Rattle.refusal.specs.Tries.{first, answered}
-use Rattle.roll.specs.Roll.{emptyRoll, countOf, inStanding, counted, enteredRoll}
+use Rattle.roll.specs.Roll.{emptyRoll, countOf, inStanding, counted, enterTries, enteredRoll, withdrawTries}
 use Rattle.histories.specs.Histories.{enter, changed, here, IsRoll}
-use Rattle.histories.proofs.Counts.{zeros-small, changed-roll, empty-roll}
+use Rattle.histories.proofs.Counts.{zeros-small, changed-roll, empty-roll, left-seen, right-seen}
 use mathlib.Core.Logic.{inl, inr}
-use mathlib.Core.List.{List}
 use lib.Dec.{lit<}
-use Rattle.refusal.specs.Tries.{Try}
-use Rattle.refusal.specs.Claims.{Numbered}
-use Rattle.refusal.proofs.Tries as tries
-use Rattle.histories.proofs.Counts.{left-seen, right-seen}
-use Rattle.revocation.specs.Claims.{Ordered, OpensExactlyWhen, EachRefusalFirst, IssuedOpens, RevokedNeverOpens, RevokedInTwoRooms, RevocationHappens, OthersUndisturbed, NumbersTellVerdicts}
-use Rattle.revocation.proofs.Checks.{check-numbered, opening, accepted}
+use Rattle.refusal.proofs.Ladder.{ordered}
+use Rattle.grant.specs.Calls.{issueTries, checkTries}
+use Rattle.revocation.specs.Claims.{OpensExactlyWhen, EachRefusalFirst, IssuedOpens, RevokedNeverOpens, RevokedInTwoRooms}
+use Rattle.revocation.specs.Claims.{RevocationHappens, OthersUndisturbed, NumbersTellVerdicts}
+use Rattle.revocation.proofs.Checks.{opening, accepted}
 use Rattle.revocation.proofs.Issued.{checks, revoked, revoked-asked}
 use Rattle.revocation.proofs.Others.{same-check, verdicts-told}
 
@@ -22,16 +19,13 @@ unfolding OpensExactlyWhen
 opens-exactly-when key hk rounds roll grant hg block few right =
     (opening key rounds roll grant block right hk hg, accepted key rounds roll grant block right few)
 
-ordered : (ts : List Try) → Numbered ts → Ordered ts
-ordered ts n = record { none-given = tries.none-given ts; none-holds = tries.none-holds ts n; given-first = tries.first-of ts }
-
 pub each-refusal-first : EachRefusalFirst
 unfolding EachRefusalFirst
 each-refusal-first key rounds roll contractor grant block right out = record {
-  enter = ordered _ (lit< tt, (lit< tt, (lit< tt, tt)));
-  withdraw = ordered _ (lit< tt, (lit< tt, tt));
-  issue = ordered _ (lit< tt, (lit< tt, (lit< tt, (lit< tt, (lit< tt, (lit< tt, tt))))));
-  check = ordered _ (check-numbered key rounds roll grant block right);
+  enter = ordered (enterTries contractor (countOf roll contractor)) refl;
+  withdraw = ordered (withdrawTries contractor (countOf roll contractor)) refl;
+  issue = ordered (issueTries key rounds roll contractor block right out) refl;
+  check = ordered (checkTries key rounds roll grant block right) refl;
 }
 
 pub issued-opens : IssuedOpens

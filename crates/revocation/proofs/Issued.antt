@@ -8,8 +8,9 @@ use lib.Dec.{lit<}
 use lib.ListN.{length}
 use borrow.Author.Tests.{eqb-true, eq-eqb, ne-eqb}
 use Rattle.refusal.specs.Tries.{NoneHolds}
-use Rattle.refusal.proofs.Tries.{first-passes, first-holds, none-holds}
-use Rattle.blocks.specs.Blocks.{AreBytes}
+use Rattle.refusal.proofs.Tries.{first-passes, first-holds}
+use Rattle.refusal.proofs.Ladder.{all-pass}
+use Rattle.basics.specs.Bytes.{AreBytes}
 use Rattle.cipher.specs.Cipher.{cipherBlock}
 use Rattle.cipher.specs.Claims.{DeciphersWhatWasEnciphered}
 use Rattle.cipher.proofs.Claims.{deciphers-what-was-enciphered}
@@ -18,11 +19,11 @@ use Rattle.roll.specs.Roll.{countOf}
 use Rattle.roll.proofs.Contractors.{Contractor, a-contractor, a-standing}
 use Rattle.histories.specs.Histories.{Change, rollAfter, Withdrawn, Withdraws, IsRoll}
 use Rattle.histories.proofs.Counts.{counted-up, asked-counts}
-use Rattle.grant.specs.Grants.{isRight, plainGrant, contractorIn, countIn, blockIn, rightIn}
+use Rattle.grant.specs.Grants.{isRight, plainGrant, contractorIn, countIn, sizeBlockIn, rightIn}
 use Rattle.grant.specs.Calls.{issueTries, issuedGrant, openedGrant}
 use Rattle.grant.proofs.Tests.{right-small}
 use Rattle.revocation.specs.Claims.{Opening, Issued, Checks, OpensNothing}
-use Rattle.revocation.proofs.Checks.{one-or-two, passed, accepted, names-contractor, names-count, names-block, names-right, names-grant}
+use Rattle.revocation.proofs.Checks.{one-or-two, passed, Named, named, accepted}
 
 -- ---- plain bytes are bytes
 plain-bytes : (c n b r : ℕ) → r < 256 → AreBytes (plainGrant c n b r)
@@ -49,9 +50,10 @@ issued-twelve : (key : List ℕ) (rounds : ℕ) (roll : Roll) (c b r : ℕ) → 
 unfolding issuedGrant cipherBlock
 issued-twelve key rounds roll c b r = refl
 
-module _ (key : List ℕ) (rounds : ℕ) (roll : Roll) (contractor block right : ℕ) (out : List ℕ) (i : Issued key rounds roll contractor block right out) where
-  allowed : NoneHolds (issueTries key rounds roll contractor right out)
-  allowed = none-holds (issueTries key rounds roll contractor right out) (lit< tt, (lit< tt, (lit< tt, (lit< tt, (lit< tt, (lit< tt, tt)))))) (i .number)
+module _ (key : List ℕ) (rounds : ℕ) (roll : Roll) (contractor block right : ℕ) (out : List ℕ)
+    (i : Issued key rounds roll contractor block right out) where
+  allowed : NoneHolds (issueTries key rounds roll contractor block right out)
+  allowed = all-pass (issueTries key rounds roll contractor block right out) refl (i .number)
 
   asked : isRight right ≡ true
   asked = allowed .1 .1 .1 .1 .0
@@ -67,9 +69,10 @@ module _ (key : List ℕ) (rounds : ℕ) (roll : Roll) (contractor block right :
   unfolding openedGrant issuedGrant DeciphersWhatWasEnciphered
   deciphered =
       let h = right-small right asked in
-      deciphers-what-was-enciphered key rounds (plainGrant contractor (countOf roll contractor) block right)
+      let n = countOf roll contractor in
+      deciphers-what-was-enciphered key rounds (plainGrant contractor n block right)
       record { bytes = i .key-bytes; length-allowed = allowed .0; rounds-allowed = allowed .1 .0 }
-      record { bytes = plain-bytes contractor (countOf roll contractor) block right (omega arith); twelve = plain-twelve contractor (countOf roll contractor) block right }
+      record { bytes = plain-bytes contractor n block right (omega arith); twelve = plain-twelve contractor n block right }
 
   opening : Opening key rounds roll (issuedGrant key rounds roll contractor block right) block right
   opening =
@@ -93,40 +96,35 @@ module _ (key : List ℕ) (rounds : ℕ) (roll : Roll) (contractor block right :
   g = issuedGrant key rounds roll contractor block right
 
   -- what the issued grant names
-  names : (contractorIn (openedGrant key rounds (issuedGrant key rounds roll contractor block right)) ≡ contractor)
-      × (countIn (openedGrant key rounds (issuedGrant key rounds roll contractor block right)) ≡ countOf roll contractor)
-  unfolding g
-  names = (
-    names-contractor key rounds roll g block right contractor (countOf roll contractor) deciphered (number-of .least) (number-of .most) count-small (i .block-small) asked,
-    names-count key rounds roll g block right contractor (countOf roll contractor) deciphered (number-of .least) (number-of .most) count-small (i .block-small) asked,
-  )
+  names : Named (openedGrant key rounds (issuedGrant key rounds roll contractor block right)) contractor (countOf roll contractor) block right
+  names = named _ contractor (countOf roll contractor) block right deciphered (number-of .least) (number-of .most) count-small (i .block-small) asked
 
   pub checks : Checks key rounds roll contractor block right
   unfolding g opening
   checks =
       let o = opening in
-      let n = countOf roll contractor in
       let l = eq-eqb (length g) 12 (issued-twelve key rounds roll contractor block right) in
-      let w = names-grant key rounds roll g block right contractor n deciphered (number-of .least) (number-of .most) count-small (i .block-small) asked in
-      let nb = names-block key rounds roll g block right contractor n deciphered (number-of .least) (number-of .most) count-small (i .block-small) asked in
-      let nr = names-right key rounds roll g block right contractor n deciphered (number-of .least) (number-of .most) count-small (i .block-small) asked in
+      let w = names .grant in
       record {
         opens = accepted key rounds roll g block right (i .block-small) o;
         other-block = λ b d.
             first-passes _ _ (allowed .0) ∙ first-passes _ _ (allowed .1 .0) ∙ first-passes _ _ l ∙ first-passes _ _ asked ∙ first-passes _ _ w
-            ∙ first-holds _ _ (ne-eqb (blockIn (openedGrant key rounds g)) b (λ e. d (sym e ∙ nb)));
+            ∙ first-holds _ _ (ne-eqb (sizeBlockIn (openedGrant key rounds g)) b (λ e. d (sym e ∙ names .block)));
         other-right = λ r q d.
             first-passes _ _ (allowed .0) ∙ first-passes _ _ (allowed .1 .0) ∙ first-passes _ _ l ∙ first-passes _ _ q ∙ first-passes _ _ w
-            ∙ first-passes _ _ (eq-eqb (blockIn (openedGrant key rounds g)) block nb)
-            ∙ first-holds _ _ (ne-eqb (rightIn (openedGrant key rounds g)) r (λ e. d (sym e ∙ nr)));
+            ∙ first-passes _ _ (eq-eqb (sizeBlockIn (openedGrant key rounds g)) block (names .block))
+            ∙ first-holds _ _ (ne-eqb (rightIn (openedGrant key rounds g)) r (λ e. d (sym e ∙ names .right)));
       }
 
   -- where the count has risen, the grant opens nothing
-  risen : (later : Roll) → countOf roll contractor < countOf later contractor → OpensNothing key rounds later (issuedGrant key rounds roll contractor block right)
+  risen : (later : Roll) → countOf roll contractor < countOf later contractor
+      → OpensNothing key rounds later (issuedGrant key rounds roll contractor block right)
   risen later l b r e =
-      let h = passed key rounds later (issuedGrant key rounds roll contractor block right) b r e in
-      let same = eqb-true (countIn (openedGrant key rounds (issuedGrant key rounds roll contractor block right))) (countOf later (contractorIn (openedGrant key rounds (issuedGrant key rounds roll contractor block right)))) (h .1 .1 .1 .1 .1 .1 .1 .1 .0) in
-      let z : countOf roll contractor ≡ countOf later contractor = sym (names .1) ∙ same ∙ ap (countOf later) (names .0) in
+      let g = issuedGrant key rounds roll contractor block right in
+      let h = passed key rounds later g b r e in
+      let p = openedGrant key rounds g in
+      let same = eqb-true (countIn p) (countOf later (contractorIn p)) (h .1 .1 .1 .1 .1 .1 .1 .1 .0) in
+      let z : countOf roll contractor ≡ countOf later contractor = sym (names .count) ∙ same ∙ ap (countOf later) (names .contractor) in
       omega (arith, l)
 
   pub revoked : IsRoll roll → (hs : List Change) → Withdrawn contractor hs roll

@@ -1,7 +1,6 @@
 -- Checks of other contractors' grants, and verdicts by their numbers.
-use mathlib.Core.Path.{_≡_, refl, sym, ap, _∙_}
-use mathlib.Core.Bool.{Bool, true, false, cond}
-use mathlib.Core.List.{List, [], _∷_}
+use mathlib.Core.Path.{_≡_, refl, ap}
+use mathlib.Core.List.{List, _++_}
 use Prim.Native.Nat.{ℕ}
 use native.Mathlib.Omega.{arith}
 use lib.Dec.{eqb}
@@ -9,39 +8,25 @@ use lib.ListN.{length}
 use Rattle.refusal.specs.Claims.{NumbersTellReasons}
 use Rattle.refusal.proofs.Claims.{numbers-tell-reasons}
 use Rattle.refusal.proofs.Reasons.{reason-positive}
-use Rattle.refusal.specs.Tries.{_unless_, first, answered}
-use Rattle.refusal.proofs.Tries.{first-holds}
-use Rattle.sizes.specs.Sizes.{keyLength, roundsAllowed}
+use Rattle.refusal.specs.Tries.{first, answered}
 use Rattle.roll.specs.declared.Roll.{Roll}
-use Rattle.roll.specs.Roll.{inStanding}
-use Rattle.histories.specs.Histories.{Change, changeOf, changed}
+use Rattle.histories.specs.Histories.{Change, contractorOf, changed}
 use Rattle.histories.proofs.Counts.{changed-other}
 use Rattle.grant.specs.declared.Right as right
 use Rattle.grant.specs.declared.Right.the-variants.{Reading, Overwriting}
 use Rattle.grant.specs.declared.Verdict.{Verdict}
 use Rattle.grant.specs.declared.Verdict.the-variants.{Opens, Refused}
-use Rattle.grant.specs.Grants.{isRight, rightNumber, contractorIn, countIn, blockIn, rightIn, isGrant, verdictNumber, verdictContractor, verdictRight}
-use Rattle.grant.specs.Calls.{openedGrant, plainTries, checkNumber, checkContractor, checkRight}
-use Rattle.grant.proofs.Tests.{a-grant}
+use Rattle.grant.specs.Grants.{rightNumber, contractorIn, rightIn, verdictNumber, verdictContractor, verdictRight}
+use Rattle.grant.specs.Calls.{inputTries, openedGrant, plainTries, checkNumber, checkContractor, checkRight}
 use Rattle.revocation.specs.Claims.{SameCheck}
 
 -- ---- others
-plain-same : (p : List ℕ) (roll : Roll) (block asked : ℕ) (h : Change) → (contractorIn p ≡ changeOf h → ⊥)
-    → first (plainTries p (changed h roll) block asked) ≡ first (plainTries p roll block asked)
-plain-same p roll block asked h n = by (isGrant p) refl
-  where
-    by : (b : Bool) → isGrant p ≡ b → first (plainTries p (changed h roll) block asked) ≡ first (plainTries p roll block asked)
-    by true e =
-        ap (λ (m : ℕ). first ((8 unless isGrant p) ∷ (9 unless eqb (blockIn p) block) ∷ (10 unless eqb (rightIn p) asked) ∷ (20 unless inStanding m) ∷ (23 unless eqb (countIn p) m) ∷ []))
-        (changed-other h roll (contractorIn p) (a-grant p e .contractor) n)
-    by false e = first-holds _ _ e ∙ sym (first-holds _ _ e)
-
-module _ (key : List ℕ) (rounds : ℕ) (roll : Roll) (grant : List ℕ) (block asked : ℕ) (h : Change) (n : contractorIn (openedGrant key rounds grant) ≡ changeOf h → ⊥) where
+module _ (key : List ℕ) (rounds : ℕ) (roll : Roll) (grant : List ℕ) (block asked : ℕ) (h : Change)
+    (n : contractorIn (openedGrant key rounds grant) ≡ contractorOf h → ⊥) where
   same-number : checkNumber key rounds (changed h roll) grant block asked ≡ checkNumber key rounds roll grant block asked
-  unfolding first
   same-number =
-      ap (λ (m : ℕ). cond (keyLength (length key)) (cond (roundsAllowed (length key) rounds) (cond (eqb (length grant) 12) (cond (isRight asked) m 7) 3) 2) 1)
-      (plain-same (openedGrant key rounds grant) roll block asked h n)
+      ap (λ (m : ℕ). first (inputTries (length key) rounds (eqb (length grant) 12) asked ++ plainTries (openedGrant key rounds grant) m block asked))
+      (changed-other h roll (contractorIn (openedGrant key rounds grant)) n)
 
   pub same-check : SameCheck key rounds roll (changed h roll) grant block asked
   unfolding checkContractor checkRight
@@ -58,7 +43,8 @@ right-tells Overwriting Overwriting e = refl
 right-tells Reading Overwriting e = let z : ⊥ = omega (arith, e) in absurd z
 right-tells Overwriting Reading e = let z : ⊥ = omega (arith, e) in absurd z
 
-pub verdicts-told : (v w : Verdict) → verdictNumber v ≡ verdictNumber w → verdictContractor v ≡ verdictContractor w → verdictRight v ≡ verdictRight w → v ≡ w
+pub verdicts-told : (v w : Verdict)
+    → verdictNumber v ≡ verdictNumber w → verdictContractor v ≡ verdictContractor w → verdictRight v ≡ verdictRight w → v ≡ w
 unfolding NumbersTellReasons
 verdicts-told (Opens g) (Opens h) n c r = λ i. Opens record { contractor = c i; right = right-tells (g .right) (h .right) r i }
 verdicts-told (Opens g) (Refused s) n c r = let z : ⊥ = omega (arith, n, reason-positive s) in absurd z

@@ -6,13 +6,12 @@ use mathlib.Core.Path.{_≡_}
 use mathlib.Core.List.{List, [], _∷_}
 use Prim.Native.Nat.{ℕ, _%_, _≤_, _<_}
 use lib.ListN.{length, replicate}
-use Rattle.refusal.specs.Tries.{Try, first, NoneHolds}
-use Rattle.refusal.specs.Claims.{FirstOf}
-use Rattle.blocks.specs.Blocks.{AreBytes}
+use Rattle.refusal.specs.Claims.{Ordered}
+use Rattle.basics.specs.Bytes.{AreBytes}
 use Rattle.sizes.specs.Sizes.{keyLength, roundsAllowed}
 use Rattle.roll.specs.declared.Roll.{Roll}
 use Rattle.roll.specs.Roll.{emptyRoll, countOf, enterTries, enteredRoll, withdrawTries}
-use Rattle.histories.specs.Histories.{Change, withdraw, changeOf, changed, rollAfter, Withdrawn, Withdraws, Merge, IsRoll}
+use Rattle.histories.specs.Histories.{Change, withdraw, contractorOf, changed, rollAfter, Withdrawn, Withdraws, Merge, IsRoll}
 use Rattle.grant.specs.declared.Verdict.{Verdict}
 use Rattle.grant.specs.Grants.{isRight, plainGrant, contractorIn, verdictNumber, verdictContractor, verdictRight}
 use Rattle.grant.specs.Calls.{issueTries, issueNumber, issuedGrant, openedGrant, checkTries, checkNumber, checkContractor, checkRight}
@@ -47,15 +46,10 @@ OpensExactlyWhen = (key : List ℕ) → AreBytes key → (rounds : ℕ) (roll : 
     × ((o : Opening key rounds roll grant block right) → Accepted key rounds roll grant block right (o .contractor))
 
 -- ---- each refusal has its reason, and the first in order is given
-pub record Ordered (ts : List Try) : Type 0 where
-  pub none-given : NoneHolds ts → first ts ≡ 0
-  pub none-holds : first ts ≡ 0 → NoneHolds ts
-  pub given-first : 0 < first ts → FirstOf ts
-
 pub record OrderOfCalls (key : List ℕ) (rounds : ℕ) (roll : Roll) (contractor : ℕ) (grant : List ℕ) (block right : ℕ) (out : List ℕ) : Type 0 where
-  pub enter : Ordered (enterTries roll contractor)
-  pub withdraw : Ordered (withdrawTries roll contractor)
-  pub issue : Ordered (issueTries key rounds roll contractor right out)
+  pub enter : Ordered (enterTries contractor (countOf roll contractor))
+  pub withdraw : Ordered (withdrawTries contractor (countOf roll contractor))
+  pub issue : Ordered (issueTries key rounds roll contractor block right out)
   pub check : Ordered (checkTries key rounds roll grant block right)
 
 unfoldable pub EachRefusalFirst : Type 0
@@ -67,14 +61,15 @@ EachRefusalFirst = (key : List ℕ) (rounds : ℕ) (roll : Roll) (contractor : �
 pub record Issued (key : List ℕ) (rounds : ℕ) (roll : Roll) (contractor block right : ℕ) (out : List ℕ) : Type 0 where
   pub key-bytes : AreBytes key
   pub block-small : block < 4294967296
-  pub number : issueNumber key rounds roll contractor right out ≡ 0
+  pub number : issueNumber key rounds roll contractor block right out ≡ 0
 
 -- on the same roll the grant opens for its block and right, with its contractor and right; for another block it is refused with 9, and
 -- for the other right with 10
 pub record Checks (key : List ℕ) (rounds : ℕ) (roll : Roll) (contractor block right : ℕ) : Type 0 where
   pub opens : Accepted key rounds roll (issuedGrant key rounds roll contractor block right) block right contractor
   pub other-block : (b : ℕ) → (b ≡ block → ⊥) → checkNumber key rounds roll (issuedGrant key rounds roll contractor block right) b right ≡ 9
-  pub other-right : (r : ℕ) → isRight r ≡ true → (r ≡ right → ⊥) → checkNumber key rounds roll (issuedGrant key rounds roll contractor block right) block r ≡ 10
+  pub other-right : (r : ℕ) → isRight r ≡ true → (r ≡ right → ⊥)
+      → checkNumber key rounds roll (issuedGrant key rounds roll contractor block right) block r ≡ 10
 
 unfoldable pub IssuedOpens : Type 0
 IssuedOpens = (key : List ℕ) (rounds : ℕ) (roll : Roll) (contractor block right : ℕ) (out : List ℕ)
@@ -117,9 +112,10 @@ pub record SameCheck (key : List ℕ) (rounds : ℕ) (roll other : Roll) (grant 
 
 unfoldable pub OthersUndisturbed : Type 0
 OthersUndisturbed = (key : List ℕ) (rounds : ℕ) (roll : Roll) (grant : List ℕ) (block right : ℕ) (h : Change)
-    → (contractorIn (openedGrant key rounds grant) ≡ changeOf h → ⊥) → SameCheck key rounds roll (changed h roll) grant block right
+    → (contractorIn (openedGrant key rounds grant) ≡ contractorOf h → ⊥) → SameCheck key rounds roll (changed h roll) grant block right
 
 -- ---- verdicts
 -- number, contractor and right tell a verdict: so the check's contract fixes it
 unfoldable pub NumbersTellVerdicts : Type 0
-NumbersTellVerdicts = (v w : Verdict) → verdictNumber v ≡ verdictNumber w → verdictContractor v ≡ verdictContractor w → verdictRight v ≡ verdictRight w → v ≡ w
+NumbersTellVerdicts = (v w : Verdict)
+    → verdictNumber v ≡ verdictNumber w → verdictContractor v ≡ verdictContractor w → verdictRight v ≡ verdictRight w → v ≡ w

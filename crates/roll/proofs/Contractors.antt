@@ -1,11 +1,15 @@
 -- What the tests of a contractor's number and of a count say.
 use mathlib.Core.Path.{_≡_, sym, ap}
-use mathlib.Core.Bool.{Bool, true, false, _&&_}
+use mathlib.Core.Bool.{Bool, true, false, cond}
 use Prim.Native.Nat.{ℕ, _-_, _%_, _≤_, _<_}
+use native.Mathlib.Omega.{arith}
 use lib.Dec.{eqb, ltb, leb}
-use borrow.Author.Tests.{leb-true, le-leb, lt-leb, lt-ltb, ltb-true, eqb-true, eq-eqb, ne-eqb}
-use Rattle.refusal.proofs.Tests.{and-first, and-second}
-use Rattle.roll.specs.Roll.{isContractor, inStanding}
+use lib.ListN.{getD}
+use borrow.Author.Tests.{leb-true, le-leb, lt-ltb, ltb-true, eqb-true, eq-eqb}
+use Rattle.refusal.specs.Tries.{NoneHolds}
+use Rattle.basics.proofs.Tests.{and-first, and-second}
+use Rattle.roll.specs.declared.Roll.{Roll}
+use Rattle.roll.specs.Roll.{isContractor, countOf, inStanding, enterTries, withdrawTries}
 
 -- a contractor's number
 pub record Contractor (c : ℕ) : Type 0 where
@@ -18,29 +22,35 @@ a-contractor c e = record { least = leb-true 1 c (and-first (leb 1 c) (leb c 200
 pub is-contractor : (c : ℕ) → Contractor c → isContractor c ≡ true
 is-contractor c h = rw (le-leb 1 c (h .least), le-leb c 200 (h .most))
 
-pub below-one : (c : ℕ) → c < 1 → false ≡ isContractor c
-below-one c h = sym (ap (λ (b : Bool). b && leb c 200) (lt-leb 1 c h))
+-- the count of a contractor, and of nobody
+pub count-is : (roll : Roll) (c : ℕ) → isContractor c ≡ true → countOf roll c ≡ getD (roll .counts) (c - 1) 0
+unfolding countOf
+count-is roll c e = ap (λ (b : Bool). cond b (getD (roll .counts) (c - 1) 0) 0) e
 
-pub from-one : (c : ℕ) → 1 ≤ c → leb c 200 ≡ isContractor c
-from-one c h = sym (ap (λ (b : Bool). b && leb c 200) (le-leb 1 c h))
+pub nobody : (roll : Roll) (c : ℕ) → isContractor c ≡ false → 0 ≡ countOf roll c
+unfolding countOf
+nobody roll c e = sym (ap (λ (b : Bool). cond b (getD (roll .counts) (c - 1) 0) 0) e)
 
--- a count
+-- a count in standing
 pub record Standing (n : ℕ) : Type 0 where
   pub odd : n % 2 ≡ 1
   pub below : n < 65535
 
 pub a-standing : (n : ℕ) → inStanding n ≡ true → Standing n
 unfolding inStanding
-a-standing n e = record { odd = eqb-true (n % 2) 1 (and-first (eqb (n % 2) 1) (ltb n 65535) e); below = ltb-true n 65535 (and-second (eqb (n % 2) 1) (ltb n 65535) e) }
+a-standing n e = record {
+  odd = eqb-true (n % 2) 1 (and-first (eqb (n % 2) 1) (ltb n 65535) e);
+  below = ltb-true n 65535
+      (and-second (eqb (n % 2) 1) (ltb n 65535) e);
+}
 
 pub is-standing : (n : ℕ) → Standing n → inStanding n ≡ true
 unfolding inStanding
 is-standing n h = rw (eq-eqb (n % 2) 1 (h .odd), lt-ltb n 65535 (h .below))
 
-pub not-odd : (n : ℕ) → (n % 2 ≡ 1 → ⊥) → false ≡ inStanding n
-unfolding inStanding
-not-odd n h = sym (ap (λ (b : Bool). b && ltb n 65535) (ne-eqb (n % 2) 1 h))
+-- ---- where entering or withdrawing is not refused, the count can be added to
+pub may-enter : (c n : ℕ) → NoneHolds (enterTries c n) → (isContractor c ≡ true) × (n < 65535)
+may-enter c n h = (h .0, omega (arith, ltb-true n 65534 (h .1 .1 .0)))
 
-pub odd-below : (n : ℕ) → n % 2 ≡ 1 → ltb n 65535 ≡ inStanding n
-unfolding inStanding
-odd-below n h = sym (ap (λ (b : Bool). b && ltb n 65535) (eq-eqb (n % 2) 1 h))
+pub may-withdraw : (c n : ℕ) → NoneHolds (withdrawTries c n) → (isContractor c ≡ true) × (n < 65535)
+may-withdraw c n h = (h .0, a-standing n (h .1 .0) .below)

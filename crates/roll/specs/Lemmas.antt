@@ -3,12 +3,13 @@ use mathlib.Core.Path.{_≡_}
 use mathlib.Core.List.{List}
 use Prim.Native.Nat.{ℕ, _<_}
 use lib.ListN.{length, getD}
+use Rattle.basics.specs.Bytes.{AreBytes}
 use Rattle.roll.specs.declared.Roll.{Roll}
-use Rattle.roll.specs.Roll.{rollOf, rollBytes}
+use Rattle.roll.specs.Roll.{rollLength, rollOf, rollBytes}
 
 -- a roll read from 400 bytes has those bytes
 unfoldable pub BytesTellRoll : Type 0
-BytesTellRoll = (bytes : List ℕ) → ((i : ℕ) → getD bytes i 0 < 256) → length bytes ≡ 400 → rollBytes (rollOf bytes) ≡ bytes
+BytesTellRoll = (bytes : List ℕ) → AreBytes bytes → length bytes ≡ rollLength → rollBytes (rollOf bytes) ≡ bytes
 
 -- and the roll read from a roll's bytes is that roll, where its counts are 16-bit numbers
 unfoldable pub RollTellsBytes : Type 0

@@ -1,3 +1,4 @@
 pub mod Roll
+pub mod ForProver
 pub mod Lemmas
 pub mod KnownAnswers

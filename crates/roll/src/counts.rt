@@ -5,21 +5,21 @@ ghost use mathlib.Core.Bool.{true};
 ghost use Prim.Native.Nat.{_<_};
 ghost use Rattle.roll.specs.Roll.{isContractor, countOf, inStanding, counted};
 use crate::Roll;
+use basics::both;
 
 pub fn is_contractor(c: u32) -> bool
     ensures { λ r. ⌜ r ≡ isContractor c ⌝ }
 {
-    if c < 1 {
-        return false;
-    }
-    c <= 200
+    both(1 <= c, c <= 200)
 }
 
-// The count of contractor 1 to 200.
+// The count of a contractor, and 0 for a number that is nobody's.
 pub fn count_of(roll: Roll, c: u32) -> u16
-    requires { ⌜ isContractor c ≡ true ⌝ }
     ensures { λ r. ⌜ r ≡ countOf roll c ⌝ }
 {
+    if !is_contractor(c) {
+        return 0;
+    }
     let counts = roll.counts;
     let at = (c - 1) as usize;
     counts[at]
@@ -29,10 +29,7 @@ pub fn count_of(roll: Roll, c: u32) -> u16
 pub fn is_in_standing(n: u16) -> bool
     ensures { λ r. ⌜ r ≡ inStanding n ⌝ }
 {
-    if n % 2 != 1 {
-        return false;
-    }
-    n < 65535
+    both(n % 2 == 1, n < 65535)
 }
 
 // The roll with 1 added to a contractor's count.

@@ -2,6 +2,7 @@
 
 mod counts;
 mod stored;
+mod tries;
 
 ghost use mathlib.Core.Path.{_≡_};
 ghost use Rattle.refusal.specs.Reasons.{outcomeNumber};
@@ -11,9 +12,13 @@ pub use counts::count_of;
 pub use counts::is_contractor;
 pub use counts::is_in_standing;
 use refusal::Outcome;
-use refusal::Reason;
-pub use stored::roll_from;
-pub use stored::write_roll;
+pub use stored::add_one_in;
+pub use stored::count_in;
+pub use tries::try_enter;
+pub use tries::try_withdraw;
+
+// The bytes of a roll as hosts lend it.
+pub const ROLL_BYTES: usize = 400;
 
 // The count of contractor c stands at c - 1.
 pub struct Roll {
@@ -40,27 +45,12 @@ pub fn enter(roll: Roll, contractor: u32) -> Changed
     ensures { λ r. ⌜ outcomeNumber (r .outcome) ≡ enterNumber roll contractor ⌝ }
     ensures { λ r. ⌜ r .roll ≡ enteredRoll roll contractor ⌝ }
 {
-    if !is_contractor(contractor) {
-        return Changed {
-            outcome: Outcome::Refused(Reason::Contractor),
-            roll,
-        };
-    }
-    let count = count_of(roll, contractor);
-    if is_in_standing(count) {
-        return Changed {
-            outcome: Outcome::Refused(Reason::InStanding),
-            roll,
-        };
-    }
-    if 65534 <= count {
-        return Changed {
-            outcome: Outcome::Refused(Reason::CountSpent),
-            roll,
-        };
+    let outcome = try_enter(Outcome::Done, contractor, count_of(roll, contractor));
+    if refusal::is_refused(outcome) {
+        return Changed { outcome, roll };
     }
     Changed {
-        outcome: Outcome::Done,
+        outcome,
         roll: add_one(roll, contractor),
     }
 }
@@ -70,21 +60,12 @@ pub fn withdraw(roll: Roll, contractor: u32) -> Changed
     ensures { λ r. ⌜ outcomeNumber (r .outcome) ≡ withdrawNumber roll contractor ⌝ }
     ensures { λ r. ⌜ r .roll ≡ withdrawnRoll roll contractor ⌝ }
 {
-    if !is_contractor(contractor) {
-        return Changed {
-            outcome: Outcome::Refused(Reason::Contractor),
-            roll,
-        };
-    }
-    let count = count_of(roll, contractor);
-    if !is_in_standing(count) {
-        return Changed {
-            outcome: Outcome::Refused(Reason::NotInStanding),
-            roll,
-        };
+    let outcome = try_withdraw(Outcome::Done, contractor, count_of(roll, contractor));
+    if refusal::is_refused(outcome) {
+        return Changed { outcome, roll };
     }
     Changed {
-        outcome: Outcome::Done,
+        outcome,
         roll: add_one(roll, contractor),
     }
 }

@@ -1,41 +1,31 @@
-// A roll as hosts keep and lend it: 400 bytes, two for each contractor, big end first.
+// A roll as hosts keep and lend it: 400 bytes, two for each contractor, big end first. A count is read and written where it lies.
 
 ghost use mathlib.Core.Path.{_≡_};
-ghost use lib.ListN.{length};
-ghost use Rattle.roll.specs.Roll.{countFrom, rollOf, rollBytes};
-use crate::Roll;
+ghost use Rattle.roll.specs.Roll.{countOf, counted, rollOf, rollBytes};
+ghost use Rattle.roll.specs.ForProver.{Countable};
+use crate::counts::is_contractor;
 
-// A count from its two bytes.
-fn count_from(first: u8, second: u8) -> u16
-    ensures { λ r. ⌜ r ≡ countFrom first second ⌝ }
+// A contractor's count on the roll that the bytes hold.
+pub fn count_in(bytes: &[u8], c: u32) -> u16
+    ensures { λ r. ⌜ r ≡ countOf (rollOf (now (bytes .entry))) c ⌝ }
 {
-    256 * (first as u16) + second as u16
+    if !is_contractor(c) {
+        return 0;
+    }
+    let at = 2 * (c - 1) as usize;
+    if bytes.len() < at + 2 {
+        return 0;
+    }
+    numbers::two_from(bytes[at], bytes[at + 1])
 }
 
-pub fn roll_from(bytes: &[u8]) -> Roll
-    requires { ⌜ length (now bytes) ≡ 400 ⌝ }
-    ensures { λ r. ⌜ r ≡ rollOf (now (bytes .entry)) ⌝ }
+// The bytes of the roll with 1 added to a contractor's count.
+pub fn add_one_in(bytes: &mut [u8], c: u32)
+    requires { ⌜ Countable (now bytes) c ⌝ }
+    ensures { λ _. ⌜ now (bytes .exit) ≡ rollBytes (counted (rollOf (now (bytes .entry))) c) ⌝ }
 {
-    let mut counts = [0u16; 200];
-    let mut i: usize = 0;
-    while i < 200 {
-        counts[i] = count_from(bytes[2 * i], bytes[2 * i + 1]);
-        i += 1;
-    }
-    Roll { counts }
-}
-
-// Writes a roll's 400 bytes.
-pub fn write_roll(out: &mut [u8], roll: Roll)
-    requires { ⌜ (length (now out) ≡ 400) × (length (roll .counts) ≡ 200) ⌝ }
-    ensures { λ _. ⌜ now (out .exit) ≡ rollBytes roll ⌝ }
-{
-    let counts = roll.counts;
-    let mut i: usize = 0;
-    while i < 200 {
-        let n = counts[i];
-        out[2 * i] = (n / 256 % 256) as u8;
-        out[2 * i + 1] = (n % 256) as u8;
-        i += 1;
-    }
+    let at = 2 * (c - 1) as usize;
+    let count = numbers::two_bytes(count_in(bytes, c) as u32 + 1);
+    bytes[at] = count[0];
+    bytes[at + 1] = count[1];
 }

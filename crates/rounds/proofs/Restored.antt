@@ -6,7 +6,8 @@ use native.Mathlib.Nat.{not-suc-le-zero, le-of-suc-le-suc}
 use lib.ListN.{length}
 use Rattle.layers.specs.State.{State, IsState}
 use Rattle.layers.specs.Layers.{substituted, permuted, diffused, added}
-use Rattle.layers.proofs.Layers.{permuted-permuted, substituted-substituted, substituted-permuted, added-added, diffused-diffused, diffused-added, substituted-state, permuted-state, added-state, diffused-state}
+use Rattle.layers.proofs.Layers.{permuted-permuted, substituted-substituted, substituted-permuted, added-added, diffused-diffused}
+use Rattle.layers.proofs.Layers.{diffused-added, substituted-state, permuted-state, added-state, diffused-state}
 use Rattle.rounds.specs.Rounds.{round, lastRound, rounds, enciphered, turned, AllStates}
 use Rattle.rounds.proofs.Turned.{turned-ends}
 

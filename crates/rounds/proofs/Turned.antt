@@ -108,7 +108,8 @@ module _ (k : State) (ks : List State) (l : State) where
   ends-inner m h =
       let z : suc (length ks) - suc m ≡ suc (length ks - suc m) = omega arith in
       turned-inner whole (suc (length ks)) whole-length (suc m) (omega arith) (omega arith)
-      ∙ ap diffused (ap (λ (n : ℕ). getD whole n []) z ∙ List·getD-append ks (l ∷ []) [] (length ks - suc m) (omega arith) ∙ sym (getD-reverse [] ks m h))
+      ∙ ap diffused (ap (λ (n : ℕ). getD whole n []) z
+      ∙ List·getD-append ks (l ∷ []) [] (length ks - suc m) (omega arith) ∙ sym (getD-reverse [] ks m h))
       ∙ sym (List·getD-append (map diffused (reverse ks)) (k ∷ []) [] m (omega (arith, middle))
       ∙ getD-map diffused [] [] (reverse ks) m (omega (arith, length-reverse ks)))
 

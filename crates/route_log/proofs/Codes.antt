@@ -1,9 +1,10 @@
--- Bytes as calls.
-use mathlib.Core.Path.{_≡_, ap}
+-- Bytes as calls, and what is logged of a call.
+use mathlib.Core.Path.{_≡_, sym, ap}
 use Prim.Native.Nat.{ℕ}
 use borrow.Author.Tests.{ne-eqb}
-use Rattle.routes.specs.Routes.{forward, back, subkey, walk}
-use Rattle.route_log.specs.Log.{callOf}
+use Rattle.holder.specs.declared.Holder.{Holder}
+use Rattle.routes.specs.Routes.{Call, forward, back, subkey, walk, returned, answer}
+use Rattle.route_log.specs.Log.{callOf, loggedOf}
 
 pub code-forward : (b : ℕ) → b ≡ 253 → callOf b ≡ forward
 unfolding callOf
@@ -20,3 +21,6 @@ code-subkey b e = ap callOf e
 pub code-walk : (b : ℕ) → (b ≡ 253 → ⊥) → (b ≡ 254 → ⊥) → (b ≡ 255 → ⊥) → callOf b ≡ walk b
 unfolding callOf
 code-walk b f g h = rw (ne-eqb b 253 f, ne-eqb b 254 g, ne-eqb b 255 h)
+
+pub logged-as : {c k : Call} (h : Holder) → c ≡ k → loggedOf (answer k h) (returned k h) ≡ loggedOf (answer c h) (returned c h)
+logged-as h e = ap (λ (k : Call). loggedOf (answer k h) (returned k h)) (sym e)

@@ -1,7 +1,7 @@
 -- Parts put one behind the other.
 use mathlib.Core.Path.{_≡_, sym, ap, ap₂, _∙_}
 use mathlib.Core.List.{List, _++_, append-assoc}
-use Prim.Native.Nat.{ℕ, _+_, _-_, _≤_}
+use Prim.Native.Nat.{ℕ, _+_, _≤_}
 use native.Mathlib.Omega.{arith}
 use lib.ListN.{length, take, drop, length-append}
 use lib.Seq.{length-take-le, take-at, drop-append-add, drop-drop}
@@ -29,7 +29,8 @@ three-parts at x y z l₀ l₁ l₂ l₃ room ex ey ez e₁ e₂ e₃ =
     let nx : at + length x ≡ at + 5 = omega (arith, ex) in
     let ny : at + 5 + length y ≡ at + 17 = omega (arith, ey) in
     let nz : at + 17 + length z ≡ at + 41 = omega (arith, ez) in
-    let f₁ : l₁ ≡ (p ++ x) ++ drop (at + 5) l₀ = e₁ ∙ ap (λ (n : ℕ). p ++ (x ++ drop n l₀)) nx ∙ sym (append-assoc p x (drop (at + 5) l₀)) in
+    let f₁ : l₁ ≡ (p ++ x) ++ drop (at + 5) l₀ =
+    e₁ ∙ ap (λ (n : ℕ). p ++ (x ++ drop n l₀)) nx ∙ sym (append-assoc p x (drop (at + 5) l₀)) in
     let f₂ : l₂ ≡ ((p ++ x) ++ y) ++ drop (at + 17) l₀ =
     e₂ ∙ ap (placed (at + 5) y) f₁ ∙ placed-behind (at + 5) (p ++ x) y l₀ lx ∙ ap (λ (n : ℕ). ((p ++ x) ++ y) ++ drop n l₀) ny in
     e₃ ∙ ap (placed (at + 17) z) f₂ ∙ placed-behind (at + 17) ((p ++ x) ++ y) z l₀ ly

@@ -5,7 +5,7 @@ use Prim.Native.Nat.{ℕ, _*_, _%_}
 use lib.Dec.{eqb, leb}
 use lib.ListN.{length}
 use Rattle.refusal.specs.Tries.{Try, _unless_, first, answered, written}
-use Rattle.sizes.specs.Sizes.{keyLength, sizeOf}
+use Rattle.sizes.specs.Sizes.{keyLength, tOf}
 use Rattle.holder.specs.declared.Holder.{Holder}
 use Rattle.holder.specs.declared.Way.{Way}
 use Rattle.holder.specs.declared.Way.the-variants.{Forward, Back}
@@ -35,14 +35,16 @@ wayNumber Back = 1
 -- a row of the log, 41 bytes: refusal number, steps, direction, the holder's length and number, the subkey, the holder's bytes. In
 -- a run all numbers are below 256
 unfoldable pub rowOf : Logged → List ℕ
-rowOf r = (r .number % 256 ∷ r .steps % 256 ∷ wayNumber (r .way) ∷ r .holder .length % 256 ∷ r .holder .number % 256 ∷ []) ++ (r .subkey ++ r .holder .bytes)
+rowOf r =
+    (r .number % 256 ∷ r .steps % 256 ∷ wayNumber (r .way) ∷ r .holder .length % 256 ∷ r .holder .number % 256 ∷ [])
+    ++ (r .subkey ++ r .holder .bytes)
 
 -- the rows that a list of calls on a holder of a key has to leave, the first at place s
 unfoldable pub rowsFrom : List ℕ → List Call → ℕ → List ℕ
 rowsFrom key [] s = []
 rowsFrom key (c ∷ cs) s =
-    rowOf (loggedOf (expectedAnswer key c s) (holderAt key (placeAfter (sizeOf (length key)) c s)))
-    ++ rowsFrom key cs (placeAfter (sizeOf (length key)) c s)
+    rowOf (loggedOf (expectedAnswer key c s) (holderAt key (placeAfter (tOf (length key)) c s)))
+    ++ rowsFrom key cs (placeAfter (tOf (length key)) c s)
 
 -- ---- the run of a list of calls: it needs a key, and a log with room for the rows
 abbrev pub runTries : List ℕ → List ℕ → List ℕ → List Try
@@ -53,7 +55,7 @@ runNumber key calls log = first (runTries key calls log)
 
 -- the holder at the place where the list ends; where it is not run, the holder as it was made
 unfoldable pub runHolder : List ℕ → List ℕ → List ℕ → Holder
-runHolder key calls log = answered (runNumber key calls log) (holderAt key (lastPlace (sizeOf (length key)) (callsOf calls) 0)) (madeHolder key)
+runHolder key calls log = answered (runNumber key calls log) (holderAt key (lastPlace (tOf (length key)) (callsOf calls) 0)) (madeHolder key)
 
 unfoldable pub runLog : List ℕ → List ℕ → List ℕ → List ℕ
 runLog key calls log = written (runNumber key calls log) (rowsFrom key (callsOf calls) 0) log

@@ -3,8 +3,8 @@
 
 mod run;
 
-use holder::Held;
 use holder::Holder;
+use holder::HolderAnswer;
 use holder::Way;
 
 // A call's answer, with the holder that it returned or left.
@@ -103,7 +103,7 @@ fn holder_line(h: Holder) {
 }
 
 // The end of a route: the holder, and the stage straight from the key.
-fn ending(r: Held, key: &[u8]) {
+fn ending(r: HolderAnswer, key: &[u8]) {
     let h = r.holder;
     printing::word(b"holder ");
     holder_line(h);
@@ -116,6 +116,15 @@ fn ending(r: Held, key: &[u8]) {
     holder_line(given);
 }
 
+// The lines of 200 calls.
+fn lines(calls: &[u8; 200], log: &[u8; 8200]) {
+    let mut i: usize = 0;
+    while i < 200 {
+        line(calls[i], row_at(log, i));
+        i += 1;
+    }
+}
+
 // A key and 200 calls from the generator.
 fn route(x: u64, key: &mut [u8]) -> u64 {
     let mut calls = [0u8; 200];
@@ -126,11 +135,7 @@ fn route(x: u64, key: &mut [u8]) -> u64 {
     printing::hex_bytes(key);
     printing::newline();
     let end = run::run(key, &calls, &mut log);
-    let mut i: usize = 0;
-    while i < 200 {
-        line(calls[i], row_at(&log, i));
-        i += 1;
-    }
+    lines(&calls, &log);
     ending(end, key);
     x2
 }
@@ -148,12 +153,16 @@ fn route_of(x: u64, length: usize) -> u64 {
     route(x, &mut key)
 }
 
+// Four routes of keys of one length.
+fn four(x: u64, length: usize) -> u64 {
+    let x1 = route_of(x, length);
+    let x2 = route_of(x1, length);
+    let x3 = route_of(x2, length);
+    route_of(x3, length)
+}
+
 fn main() {
-    let mut x: u64 = 1;
-    let mut i: usize = 0;
-    while i < 12 {
-        let next = route_of(x, 12 + i / 4 * 6);
-        x = next;
-        i += 1;
-    }
+    let x1 = four(1, 12);
+    let x2 = four(x1, 18);
+    four(x2, 24);
 }

@@ -9,8 +9,8 @@ ghost use Rattle.routes.specs.Routes.{returned, answer};
 ghost use Rattle.route_log.specs.Log.{callOf, loggedOf, wayNumber, rowOf, runNumber, runHolder, runLog};
 use crate::Logged;
 use blocks::put_bytes;
-use holder::Held;
 use holder::Holder;
+use holder::HolderAnswer;
 use holder::Way;
 use refusal::Outcome;
 use refusal::Reason;
@@ -22,7 +22,7 @@ pub const BACK: u8 = 254;
 pub const SUBKEY: u8 = 255;
 
 // What a step leaves to be logged.
-fn step_row(r: Held) -> Logged
+fn step_row(r: HolderAnswer) -> Logged
     ensures { λ x. ⌜ x ≡ record { number = outcomeNumber (r .outcome); steps = 0; way = Way.Forward; subkey = replicate 12 0; holder = r .holder } ⌝ }
 {
     let outcome = r.outcome;
@@ -102,7 +102,7 @@ fn put_row(log: &mut [u8], at: usize, r: Logged)
 }
 
 // Runs every call of the list, in its order, by the holder's own calls.
-pub fn run(key: &[u8], calls: &[u8], log: &mut [u8]) -> Held
+pub fn run(key: &[u8], calls: &[u8], log: &mut [u8]) -> HolderAnswer
     ensures { λ r. ⌜ outcomeNumber (r .outcome) ≡ runNumber (now (key .entry)) (now (calls .entry)) (now (log .entry)) ⌝ }
     ensures { λ r. ⌜ r .holder ≡ runHolder (now (key .entry)) (now (calls .entry)) (now (log .entry)) ⌝ }
     ensures { λ _. ⌜ now (log .exit) ≡ runLog (now (key .entry)) (now (calls .entry)) (now (log .entry)) ⌝ }
@@ -114,7 +114,7 @@ pub fn run(key: &[u8], calls: &[u8], log: &mut [u8]) -> Held
     }
     let fresh = made.holder;
     if log.len() / 41 < calls.len() {
-        return Held {
+        return HolderAnswer {
             outcome: Outcome::Refused(Reason::OutputTooShort),
             holder: fresh,
         };
@@ -128,7 +128,7 @@ pub fn run(key: &[u8], calls: &[u8], log: &mut [u8]) -> Held
         h = next;
         i += 1;
     }
-    Held {
+    HolderAnswer {
         outcome: Outcome::Done,
         holder: h,
     }

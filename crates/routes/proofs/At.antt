@@ -8,22 +8,24 @@ use lib.ListN.{length}
 use borrow.Author.Tests.{lt-ltb, le-ltb}
 use Rattle.refusal.proofs.Tries.{first-passes, first-holds, none-given}
 use Rattle.refusal.proofs.Answers.{answer-done}
-use Rattle.blocks.specs.Blocks.{AreBytes, bytesOf}
-use Rattle.sizes.specs.Sizes.{keyLength, sizeOf, turn}
+use Rattle.blocks.specs.Blocks.{bytesOf}
+use Rattle.basics.specs.Bytes.{AreBytes}
+use Rattle.sizes.specs.Sizes.{keyLength, tOf, turn}
 use Rattle.schedule.specs.Columns.{IsStage, plus, padded}
 use Rattle.schedule.specs.Stages.{linearStep, stage, subkeyOf}
 use Rattle.schedule.proofs.Columns.{as-stage}
 use Rattle.sizes.proofs.Keys.{a-key}
 use Rattle.schedule.proofs.Keys.{key-length, length-stage}
 use Rattle.schedule.proofs.Padded.{padded-agrees, plus-padded, subkey-agrees}
-use Rattle.period.specs.Repeated.{repeated}
+use Rattle.basics.specs.Repeated.{repeated}
 use Rattle.cycle.specs.Cycle.{following, preceding, addend, stageAfter, stageBefore}
 use Rattle.cycle.proofs.Agree.{inverse-agrees}
 use Rattle.cycle.proofs.Around.{after-key, before-key}
 use Rattle.holder.specs.declared.Way.{Way}
 use Rattle.holder.specs.declared.Way.the-variants.{Forward, Back}
 use Rattle.holder.specs.Holder.{whole, holderAt, blank, onward, backward, stepped, ringDistance, wayTo, walked}
-use Rattle.holder.specs.Calls.{makeTries, makeNumber, madeHolder, straightTries, straightNumber, straightHolder, holderTries, holderNumber, stepHolder, walkTries, walkNumber, walkHolder, walkSteps, walkWay, noSubkey, subkeyHeld}
+use Rattle.holder.specs.Calls.{makeTries, makeNumber, madeHolder, straightTries, straightNumber, straightHolder, holderTries, holderNumber}
+use Rattle.holder.specs.Calls.{stepHolder, walkTries, walkNumber, walkHolder, walkSteps, walkWay, noSubkey, subkeyHeld}
 use Rattle.holder.proofs.Whole.{is-whole}
 use Rattle.holder.proofs.Zeros.{padded-zeros}
 use Rattle.routes.proofs.Ring.{numberTo, numbers-below, arrives}
@@ -40,22 +42,22 @@ padded-before t s k e = ap (λ (x : List ℕ). plus (2 * t) x (addend t (precedi
 
 module _ (key : List ℕ) (bytes : AreBytes key) (right : keyLength (length key) ≡ true) where
   t : ℕ
-  t = sizeOf (length key)
+  t = tOf (length key)
 
-  is-stage : IsStage (2 * sizeOf (length key)) key
-  is-stage = as-stage (2 * sizeOf (length key)) key (key-length key right) bytes
+  is-stage : IsStage (2 * tOf (length key)) key
+  is-stage = as-stage (2 * tOf (length key)) key (key-length key right) bytes
 
-  stage-length : (n : ℕ) → length (stage (sizeOf (length key)) key n) ≡ 3 * (2 * sizeOf (length key))
-  stage-length n = length-stage (sizeOf (length key)) key (key-length key right) n
+  stage-length : (n : ℕ) → length (stage (tOf (length key)) key n) ≡ 3 * (2 * tOf (length key))
+  stage-length n = length-stage (tOf (length key)) key (key-length key right) n
 
   -- a holder at a place is whole
-  pub whole-at : (n : ℕ) → n < turn (sizeOf (length key)) → whole (holderAt key n) ≡ true
+  pub whole-at : (n : ℕ) → n < turn (tOf (length key)) → whole (holderAt key n) ≡ true
   whole-at n h =
       let e = key-length key right in
       is-whole (holderAt key n) record { key = right; below = h; zeros = padded-zeros _ (length key) (stage-length n ∙ sym e) }
 
   -- ---- steps
-  onward-at : (n : ℕ) → n < turn (sizeOf (length key)) → onward (holderAt key n) ≡ holderAt key (following (sizeOf (length key)) n)
+  onward-at : (n : ℕ) → n < turn (tOf (length key)) → onward (holderAt key n) ≡ holderAt key (following (tOf (length key)) n)
   unfolding onward t
   onward-at n h i = record {
     length = length key;
@@ -63,7 +65,7 @@ module _ (key : List ℕ) (bytes : AreBytes key) (right : keyLength (length key)
     bytes = padded ((padded-after t n (stage t key n) (stage-length n) ∙ after-key t (a-key (length key) right .sized) is-stage n h) i);
   }
 
-  backward-at : (n : ℕ) → n < turn (sizeOf (length key)) → backward (holderAt key n) ≡ holderAt key (preceding (sizeOf (length key)) n)
+  backward-at : (n : ℕ) → n < turn (tOf (length key)) → backward (holderAt key n) ≡ holderAt key (preceding (tOf (length key)) n)
   unfolding backward t
   backward-at n h i = record {
     length = length key;
@@ -71,61 +73,63 @@ module _ (key : List ℕ) (bytes : AreBytes key) (right : keyLength (length key)
     bytes = padded ((padded-before t n (stage t key n) (stage-length n) ∙ before-key t (a-key (length key) right .sized) is-stage n h) i);
   }
 
-  step-at : (way : Way) (n : ℕ) → n < turn (sizeOf (length key)) → stepped way (holderAt key n) ≡ holderAt key (numberTo (sizeOf (length key)) way n)
+  step-at : (way : Way) (n : ℕ) → n < turn (tOf (length key)) → stepped way (holderAt key n) ≡ holderAt key (numberTo (tOf (length key)) way n)
   unfolding stepped numberTo
   step-at Forward n h = onward-at n h
   step-at Back n h = backward-at n h
 
-  pub steps-at : (way : Way) (m n : ℕ) → n < turn (sizeOf (length key))
-      → repeated m (stepped way) (holderAt key n) ≡ holderAt key (repeated m (numberTo (sizeOf (length key)) way) n)
+  pub steps-at : (way : Way) (m n : ℕ) → n < turn (tOf (length key))
+      → repeated m (stepped way) (holderAt key n) ≡ holderAt key (repeated m (numberTo (tOf (length key)) way) n)
   unfolding t
   steps-at way zero n h = refl
   steps-at way (suc m) n h = ap (stepped way) (steps-at way m n h) ∙ step-at way (repeated m (numberTo t way) n) (numbers-below t way m n h)
 
   -- ---- the calls at a place
-  module _ (n : ℕ) (h : n < turn (sizeOf (length key))) where
+  module _ (n : ℕ) (h : n < turn (tOf (length key))) where
     pub not-refused : holderNumber (holderAt key n) ≡ 0
     not-refused = first-passes _ [] (whole-at n h) ∙ none-given [] tt
 
-    pub step-call : (way : Way) → stepHolder way (holderAt key n) ≡ holderAt key (numberTo (sizeOf (length key)) way n)
+    pub step-call : (way : Way) → stepHolder way (holderAt key n) ≡ holderAt key (numberTo (tOf (length key)) way n)
     unfolding stepHolder
     step-call way = sym (answer-done (holderTries (holderAt key n)) (stepped way (holderAt key n)) (holderAt key n) not-refused) ∙ step-at way n h
 
-    pub subkey-call : subkeyHeld (holderAt key n) ≡ bytesOf (subkeyOf (stage (sizeOf (length key)) key n))
+    pub subkey-call : subkeyHeld (holderAt key n) ≡ bytesOf (subkeyOf (stage (tOf (length key)) key n))
     unfolding subkeyHeld t
     subkey-call =
-        sym (answer-done (holderTries (holderAt key n)) (bytesOf (subkeyOf (padded (stage t key n)))) noSubkey not-refused)
-        ∙ ap bytesOf (subkey-agrees (2 * t) (padded (stage t key n)) (stage t key n) (omega (arith, a-key (length key) right .sized .least)) (padded-agrees (2 * t) (stage t key n) (stage-length n)))
+        let k = stage t key n in
+        sym (answer-done (holderTries (holderAt key n)) (bytesOf (subkeyOf (padded k))) noSubkey not-refused)
+        ∙ ap bytesOf (subkey-agrees (2 * t) (padded k) k (omega (arith, a-key (length key) right .sized .least))
+        (padded-agrees (2 * t) k (stage-length n)))
 
     module _ (d : ℕ) where
-      pub walk-taken : d < turn (sizeOf (length key)) → walkNumber (holderAt key n) d ≡ 0
-      walk-taken b = first-passes _ _ (whole-at n h) ∙ first-passes _ [] (lt-ltb d (turn (sizeOf (length key))) b) ∙ none-given [] tt
+      pub walk-taken : d < turn (tOf (length key)) → walkNumber (holderAt key n) d ≡ 0
+      walk-taken b = first-passes _ _ (whole-at n h) ∙ first-passes _ [] (lt-ltb d (turn (tOf (length key))) b) ∙ none-given [] tt
 
-      pub walk-refused : turn (sizeOf (length key)) ≤ d → walkNumber (holderAt key n) d ≡ 5
-      walk-refused b = first-passes _ _ (whole-at n h) ∙ first-holds _ [] (le-ltb d (turn (sizeOf (length key))) b)
+      pub walk-refused : turn (tOf (length key)) ≤ d → walkNumber (holderAt key n) d ≡ 5
+      walk-refused b = first-passes _ _ (whole-at n h) ∙ first-holds _ [] (le-ltb d (turn (tOf (length key))) b)
 
-      pub walk-call : d < turn (sizeOf (length key)) → walkHolder (holderAt key n) d ≡ holderAt key d
+      pub walk-call : d < turn (tOf (length key)) → walkHolder (holderAt key n) d ≡ holderAt key d
       unfolding walkHolder walked t
       walk-call b =
           sym (answer-done (walkTries (holderAt key n) d) (walked (holderAt key n) d) (holderAt key n) (walk-taken b))
           ∙ steps-at (wayTo t n d) (ringDistance t n d) n h
           ∙ ap (holderAt key) (arrives t n d h b)
 
-      pub walk-steps : d < turn (sizeOf (length key)) → walkSteps (holderAt key n) d ≡ ringDistance (sizeOf (length key)) n d
+      pub walk-steps : d < turn (tOf (length key)) → walkSteps (holderAt key n) d ≡ ringDistance (tOf (length key)) n d
       unfolding walkSteps
-      walk-steps b = sym (answer-done (walkTries (holderAt key n) d) (ringDistance (sizeOf (length key)) n d) 0 (walk-taken b))
+      walk-steps b = sym (answer-done (walkTries (holderAt key n) d) (ringDistance (tOf (length key)) n d) 0 (walk-taken b))
 
-      pub walk-way : d < turn (sizeOf (length key)) → walkWay (holderAt key n) d ≡ wayTo (sizeOf (length key)) n d
+      pub walk-way : d < turn (tOf (length key)) → walkWay (holderAt key n) d ≡ wayTo (tOf (length key)) n d
       unfolding walkWay
-      walk-way b = sym (answer-done (walkTries (holderAt key n) d) (wayTo (sizeOf (length key)) n d) Forward (walk-taken b))
+      walk-way b = sym (answer-done (walkTries (holderAt key n) d) (wayTo (tOf (length key)) n d) Forward (walk-taken b))
 
     -- the straight stage
     pub straight-taken : straightNumber key n ≡ 0
-    straight-taken = first-passes _ _ right ∙ first-passes _ [] (lt-ltb n (turn (sizeOf (length key))) h) ∙ none-given [] tt
+    straight-taken = first-passes _ _ right ∙ first-passes _ [] (lt-ltb n (turn (tOf (length key))) h) ∙ none-given [] tt
 
     pub straight-call : straightHolder key n ≡ holderAt key n
     unfolding straightHolder
-    straight-call = sym (answer-done (straightTries key n) (holderAt key n) blank straight-taken)
+    straight-call = sym (answer-done (straightTries (length key) n) (holderAt key n) blank straight-taken)
 
   -- ---- the holder made
   pub make-taken : makeNumber key ≡ 0

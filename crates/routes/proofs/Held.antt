@@ -8,21 +8,21 @@ use lib.Dec.{eqb, lit<}
 use lib.ListN.{length, take, drop, replicate, length-drop, take-append-drop}
 use lib.Seq.{length-take-le}
 use borrow.Author.Tests.{eqb-true}
-use Rattle.refusal.proofs.Tests.{and-first, and-second}
+use Rattle.basics.proofs.Tests.{and-first, and-second}
 use Rattle.refusal.proofs.Tries.{first-passes, none-given}
 use Rattle.refusal.proofs.Answers.{answer-done}
-use Rattle.blocks.specs.Blocks.{AreBytes}
-use Rattle.sizes.specs.Sizes.{keyLength, sizeOf, turn}
+use Rattle.basics.specs.Bytes.{AreBytes}
+use Rattle.sizes.specs.Sizes.{keyLength, tOf, turn}
 use Rattle.schedule.specs.Columns.{IsStage, padded}
 use Rattle.schedule.specs.Stages.{stage}
 use Rattle.schedule.proofs.Columns.{as-stage, stage-byte}
 use Rattle.sizes.proofs.Keys.{a-key}
 use Rattle.schedule.proofs.Padded.{stage-length}
-use Rattle.period.specs.Repeated.{repeated}
+use Rattle.basics.specs.Repeated.{repeated}
 use Rattle.cycle.proofs.Around.{of-key}
 use Rattle.holder.specs.declared.Holder.{Holder}
 use Rattle.holder.specs.declared.Way.{Way}
-use Rattle.holder.specs.Holder.{sizeHeld, allZero, whole, holderAt, stepped}
+use Rattle.holder.specs.Holder.{tHeld, allZero, whole, holderAt, stepped}
 use Rattle.holder.specs.Calls.{holderTries, holderNumber, stepHolder}
 use Rattle.holder.proofs.Whole.{a-whole, turn-held, step-whole}
 use Rattle.routes.specs.Claims.{ComesHome}
@@ -47,7 +47,7 @@ pub record Key (h : Holder) : Type 0 where
   pub key : List ℕ
   pub bytes : AreBytes key
   pub right : keyLength (length key) ≡ true
-  pub size : sizeOf (length key) ≡ sizeHeld h
+  pub size : tOf (length key) ≡ tHeld h
   pub at : h ≡ holderAt key (h .number)
 
 module _ (h : Holder) (bytes : AreBytes (h .bytes)) (all : length (h .bytes) ≡ 24) (w : whole h ≡ true) where
@@ -63,20 +63,23 @@ module _ (h : Holder) (bytes : AreBytes (h .bytes)) (all : length (h .bytes) ≡
   padded-held =
       let n = h .length in
       let e : length (drop n (h .bytes)) ≡ 24 - length (take n (h .bytes)) = length-drop n (h .bytes) ∙ omega (arith, held-length) in
-      sym (take-append-drop n (h .bytes)) ∙ ap (λ (x : List ℕ). take n (h .bytes) ++ x) (all-zero (drop n (h .bytes)) (a-whole h w .zeros) ∙ ap (λ (m : ℕ). replicate m 0) e)
+      sym (take-append-drop n (h .bytes))
+      ∙ ap (λ (x : List ℕ). take n (h .bytes) ++ x) (all-zero (drop n (h .bytes)) (a-whole h w .zeros) ∙ ap (λ (m : ℕ). replicate m 0) e)
 
-  held-stage : IsStage (2 * sizeHeld h) held
+  held-stage : IsStage (2 * tHeld h) held
   unfolding held
-  held-stage = as-stage (2 * sizeHeld h) (take (h .length) (h .bytes)) (held-length ∙ omega (arith, turn-held h (a-whole h w))) (take-bytes (h .length) (h .bytes) bytes)
+  held-stage =
+      let l : length (take (h .length) (h .bytes)) ≡ 3 * (2 * tHeld h) = held-length ∙ omega (arith, turn-held h (a-whole h w)) in
+      as-stage (2 * tHeld h) (take (h .length) (h .bytes)) l (take-bytes (h .length) (h .bytes) bytes)
 
   pub key-of : Key h
   key-of =
-      let o = of-key (sizeHeld h) (h .number) (a-whole h w .below) held-stage in
-      let l : length (o .key) ≡ h .length = stage-length (2 * sizeHeld h) (o .is) ∙ omega (arith, turn-held h (a-whole h w)) in
-      let z : sizeOf (length (o .key)) ≡ sizeHeld h = ap sizeOf l in
+      let o = of-key (tHeld h) (h .number) (a-whole h w .below) held-stage in
+      let l : length (o .key) ≡ h .length = stage-length (2 * tHeld h) (o .is) ∙ omega (arith, turn-held h (a-whole h w)) in
+      let z : tOf (length (o .key)) ≡ tHeld h = ap tOf l in
       record {
         key = o .key;
-        bytes = stage-byte (2 * sizeHeld h) (o .is);
+        bytes = stage-byte (2 * tHeld h) (o .is);
         right = ap keyLength l ∙ a-whole h w .key;
         size = z;
         at = λ i. record {
@@ -103,14 +106,15 @@ call-steps way zero h w = refl
 call-steps way (suc m) h w = ap (stepHolder way) (call-steps way m h w) ∙ call-step way (repeated m (stepped way) h) (steps-whole way m h w)
 
 -- ---- a full turn
-module _ (key : List ℕ) (bytes : AreBytes key) (right : keyLength (length key) ≡ true) (n : ℕ) (b : n < turn (sizeOf (length key))) (way : Way) where
+module _ (key : List ℕ) (bytes : AreBytes key) (right : keyLength (length key) ≡ true) (n : ℕ) (b : n < turn (tOf (length key))) (way : Way) where
   pub home-at : ComesHome (holderAt key n) way
   home-at =
+      let t = tOf (length key) in
       let h = holderAt key n in
       let w = whole-at key bytes right n b in
       record {
         taken = λ m. ap holderNumber (call-steps way m h w) ∙ not-refused (repeated m (stepped way) h) (steps-whole way m h w);
-        home = call-steps way (turn (sizeOf (length key))) h w ∙ steps-at key bytes right way (turn (sizeOf (length key))) n b ∙ ap (holderAt key) (full-turn (sizeOf (length key)) way n b);
+        home = call-steps way (turn t) h w ∙ steps-at key bytes right way (turn t) n b ∙ ap (holderAt key) (full-turn t way n b);
       }
 
 pub comes-home : (h : Holder) → AreBytes (h .bytes) → length (h .bytes) ≡ 24 → whole h ≡ true → (way : Way) → ComesHome h way

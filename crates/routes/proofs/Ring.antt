@@ -4,9 +4,9 @@ use mathlib.Core.Logic.{inl, inr}
 use Prim.Native.Nat.{ℕ, zero, suc, _+_, _-_, _*_, _%_, _≤_, _<_}
 use native.Mathlib.Nat.{mod-lt, mod-eq-of-lt, mod-add-mod, add-mod-mod, add-mod-right, add-zero, mod-le}
 use native.Mathlib.Omega.{arith}
-use Rattle.refusal.proofs.Tests.{below-or-not}
+use Rattle.basics.proofs.Tests.{below-or-not}
 use Rattle.sizes.specs.Sizes.{turn}
-use Rattle.period.specs.Repeated.{repeated}
+use Rattle.basics.specs.Repeated.{repeated}
 use Rattle.cycle.specs.Cycle.{following, preceding}
 use Rattle.cycle.proofs.Addends.{following-is, following-below, preceding-below, back-on, on-back}
 use Rattle.holder.specs.declared.Way.{Way}
@@ -76,7 +76,8 @@ down t s d l h = mod-eq-of-lt (omega arith)
 there : (t s d : ℕ) → s < turn t → d < turn t → repeated (stepsForward t s d) (following t) s ≡ d
 there t s d hs hd =
     let e : s + (d + (turn t - s)) ≡ d + turn t = omega arith in
-    ahead t (stepsForward t s d) s hs ∙ add-mod-mod s (d + (turn t - s)) (turn t) ∙ ap (λ (x : ℕ). x % turn t) e ∙ add-mod-right d (turn t) ∙ mod-eq-of-lt hd
+    ahead t (stepsForward t s d) s hs ∙ add-mod-mod s (d + (turn t - s)) (turn t)
+    ∙ ap (λ (x : ℕ). x % turn t) e ∙ add-mod-right d (turn t) ∙ mod-eq-of-lt hd
 
 here : (t s d : ℕ) → s < turn t → d < turn t → repeated (turn t - stepsForward t s d) (following t) d ≡ s
 here t s d hs hd = ahead t (turn t - stepsForward t s d) d hd ∙ elim (below-or-not d s) [

@@ -5,35 +5,35 @@ use mathlib.Core.Path.{_≡_}
 use mathlib.Core.List.{List}
 use Prim.Native.Nat.{ℕ, _*_, _≤_, _<_}
 use lib.ListN.{length}
-use Rattle.blocks.specs.Blocks.{AreBytes}
-use Rattle.sizes.specs.Sizes.{keyLength, sizeOf, turn}
-use Rattle.period.specs.Repeated.{repeated}
+use Rattle.basics.specs.Bytes.{AreBytes}
+use Rattle.sizes.specs.Sizes.{keyLength, tOf, turn}
+use Rattle.basics.specs.Repeated.{repeated}
 use Rattle.cycle.specs.Cycle.{following, preceding}
 use Rattle.holder.specs.declared.Holder.{Holder}
 use Rattle.holder.specs.declared.Way.{Way}
 use Rattle.holder.specs.declared.Way.the-variants.{Forward, Back}
-use Rattle.holder.specs.Holder.{sizeHeld, whole, holderAt, blank, ringDistance, wayTo}
+use Rattle.holder.specs.Holder.{tHeld, whole, holderAt, blank, ringDistance, wayTo}
 use Rattle.holder.specs.Calls.{makeNumber, madeHolder, straightNumber, straightHolder, holderNumber, stepHolder, walkNumber, walkHolder}
 use Rattle.routes.specs.Routes.{Call, lastHolder, answers, lastPlace, expectedAnswers}
 
 -- 6t steps on end, all forward or all back, from a whole holder: none is refused, and the holder after them is the one before
 pub record ComesHome (h : Holder) (way : Way) : Type 0 where
   pub taken : (m : ℕ) → holderNumber (repeated m (stepHolder way) h) ≡ 0
-  pub home : repeated (turn (sizeHeld h)) (stepHolder way) h ≡ h
+  pub home : repeated (turn (tHeld h)) (stepHolder way) h ≡ h
 
 -- what holds of a list of calls on the holder freshly made from a key
 pub record Route (key : List ℕ) (cs : List Call) : Type 0 where
   -- the holder is made
   pub made : makeNumber key ≡ 0
   -- the place where the list ends is a stage number
-  pub below : lastPlace (sizeOf (length key)) cs 0 < turn (sizeOf (length key))
+  pub below : lastPlace (tOf (length key)) cs 0 < turn (tOf (length key))
   -- the holder after the list has the key's length, that place, that stage's bytes and zeros past them
-  pub ends : lastHolder cs (madeHolder key) ≡ holderAt key (lastPlace (sizeOf (length key)) cs 0)
+  pub ends : lastHolder cs (madeHolder key) ≡ holderAt key (lastPlace (tOf (length key)) cs 0)
   -- every call answered what it has to at its place: only walks to 6t or more are refused, with 5, and change nothing
   pub answered : answers cs (madeHolder key) ≡ expectedAnswers key cs 0
   -- the stage given straight from the key and that place is the same holder
-  pub given-straight : straightNumber key (lastPlace (sizeOf (length key)) cs 0) ≡ 0
-  pub straight : straightHolder key (lastPlace (sizeOf (length key)) cs 0) ≡ lastHolder cs (madeHolder key)
+  pub given-straight : straightNumber key (lastPlace (tOf (length key)) cs 0) ≡ 0
+  pub straight : straightHolder key (lastPlace (tOf (length key)) cs 0) ≡ lastHolder cs (madeHolder key)
   -- a full turn from that place, either way, comes home
   pub turns : (way : Way) → ComesHome (lastHolder cs (madeHolder key)) way
 
@@ -60,7 +60,8 @@ WalkIsShortest = (t s d : ℕ) → s < turn t → d < turn t → Shortest t s d
 
 -- a refused call leaves the holder as it was handed in
 unfoldable pub RefusalKeepsHolder : Type 0
-RefusalKeepsHolder = (h : Holder) → ((way : Way) → 0 < holderNumber h → stepHolder way h ≡ h) × ((d : ℕ) → 0 < walkNumber h d → walkHolder h d ≡ h)
+RefusalKeepsHolder = (h : Holder)
+    → ((way : Way) → 0 < holderNumber h → stepHolder way h ≡ h) × ((d : ℕ) → 0 < walkNumber h d → walkHolder h d ≡ h)
 
 -- a holder that is not whole is refused with 24 by every call, and a walk to 6t or more too
 pub record Refused (h : Holder) : Type 0 where

@@ -5,7 +5,7 @@ use Prim.Native.Nat.{ℕ}
 use lib.Dec.{ltb}
 use lib.ListN.{length}
 use Rattle.blocks.specs.Blocks.{bytesOf}
-use Rattle.sizes.specs.Sizes.{sizeOf, turn}
+use Rattle.sizes.specs.Sizes.{tOf, turn}
 use Rattle.schedule.specs.Stages.{stage, subkeyOf}
 use Rattle.cycle.specs.Cycle.{following, preceding}
 use Rattle.holder.specs.declared.Holder.{Holder}
@@ -64,15 +64,15 @@ lastPlace t (c ∷ cs) s = lastPlace t cs (placeAfter t c s)
 
 -- what a call has to answer on a holder of a key at place s
 unfoldable pub expectedAnswer : List ℕ → Call → ℕ → Answer
-expectedAnswer key forward s = held 0 (holderAt key (following (sizeOf (length key)) s))
-expectedAnswer key back s = held 0 (holderAt key (preceding (sizeOf (length key)) s))
-expectedAnswer key subkey s = given 0 (bytesOf (subkeyOf (stage (sizeOf (length key)) key s)))
+expectedAnswer key forward s = held 0 (holderAt key (following (tOf (length key)) s))
+expectedAnswer key back s = held 0 (holderAt key (preceding (tOf (length key)) s))
+expectedAnswer key subkey s = given 0 (bytesOf (subkeyOf (stage (tOf (length key)) key s)))
 expectedAnswer key (walk d) s =
-    cond (ltb d (turn (sizeOf (length key))))
-    (reported 0 (holderAt key d) (ringDistance (sizeOf (length key)) s d) (wayTo (sizeOf (length key)) s d))
+    cond (ltb d (turn (tOf (length key))))
+    (reported 0 (holderAt key d) (ringDistance (tOf (length key)) s d) (wayTo (tOf (length key)) s d))
     (reported 5 (holderAt key s) 0 Forward)
 
 -- and the calls of a list, the first at place s
 unfoldable pub expectedAnswers : List ℕ → List Call → ℕ → List Answer
 expectedAnswers key [] s = []
-expectedAnswers key (c ∷ cs) s = expectedAnswer key c s ∷ expectedAnswers key cs (placeAfter (sizeOf (length key)) c s)
+expectedAnswers key (c ∷ cs) s = expectedAnswer key c s ∷ expectedAnswers key cs (placeAfter (tOf (length key)) c s)

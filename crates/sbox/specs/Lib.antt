@@ -1,3 +1,4 @@
 pub mod Sbox
+pub mod ForProver
 pub mod Published
 pub mod Claims

@@ -1,7 +1,6 @@
 -- The S-box: document 01, "The layers", S-box; paper 000, section 3.1, Table 1 and Algorithm 1.
 use mathlib.Core.List.{List, [], _∷_}
-use Prim.Native.Nat.{ℕ, _+_, _*_, _/_, _%_, _<_}
-use mathlib.Core.Path.{_≡_}
+use Prim.Native.Nat.{ℕ, _+_, _*_, _/_, _%_}
 use lib.ListN.{getD}
 
 -- the two tables of sixteen 4-bit numbers, P and Q (the mini-boxes)
@@ -39,8 +38,3 @@ sbox x =
     let h₃ = miniP (joinTops h₂ l₂) in
     let l₃ = miniQ (joinLows h₂ l₂) in
     joinHalves h₃ l₃
-
--- what the code knows of a 4-bit number r that it computed: it is n, and below 16
-pub record IsNibble (r n : ℕ) : Type 0 where
-  pub is : r ≡ n
-  pub small : r < 16

@@ -3,7 +3,8 @@
 
 ghost use mathlib.Core.Path.{_≡_};
 ghost use Prim.Native.Nat.{_%_, _<_};
-ghost use Rattle.sbox.specs.Sbox.{tableP, tableQ, miniP, miniQ, joinTops, joinLows, joinHalves, sbox, IsNibble};
+ghost use Rattle.sbox.specs.Sbox.{tableP, tableQ, miniP, miniQ, joinTops, joinLows, joinHalves, sbox};
+ghost use Rattle.sbox.specs.ForProver.{IsNibble};
 
 // The mini-boxes. A table that is indexed is laid in memory where it is bound, so callers bind both once and lend them.
 pub const P: [u8; 16] = [3, 15, 14, 0, 5, 4, 11, 12, 13, 10, 9, 6, 7, 8, 2, 1];

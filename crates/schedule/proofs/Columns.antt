@@ -16,7 +16,8 @@ row-cases P a b c (suc (suc zero)) h = c
 row-cases P a b c (suc (suc (suc i))) h = absurd (not-suc-le-zero {n = i} (omega arith))
 
 module _ {A : Type 0} where
-  columns-path : (f g : ℕ → ℕ → A) (j n : ℕ) → ((i m : ℕ) → i < 3 → j ≤ m → m < j + n → f i m ≡ g i m) → columns j n f ≡ columns j n g
+  columns-path : (f g : ℕ → ℕ → A) (j n : ℕ) → ((i m : ℕ) → i < 3 → j ≤ m → m < j + n → f i m ≡ g i m)
+      → columns j n f ≡ columns j n g
   unfolding columns
   columns-path f g j zero h = refl
   columns-path f g j (suc n) h =
@@ -51,11 +52,13 @@ unfolding columns
 length-columns f j zero = refl
 length-columns f j (suc n) = let h = length-columns f (suc j) n in omega arith
 
-pub columns-last : {A : Type 0} (f : ℕ → ℕ → A) (j n : ℕ) → columns j (suc n) f ≡ columns j n f ++ (f 0 (j + n) ∷ f 1 (j + n) ∷ f 2 (j + n) ∷ [])
+pub columns-last : {A : Type 0} (f : ℕ → ℕ → A) (j n : ℕ)
+    → columns j (suc n) f ≡ columns j n f ++ (f 0 (j + n) ∷ f 1 (j + n) ∷ f 2 (j + n) ∷ [])
 unfolding columns
 columns-last f j zero = ap (λ (m : ℕ). f 0 m ∷ f 1 m ∷ f 2 m ∷ []) (sym (add-zero j))
 columns-last {A} f j (suc n) =
-    ap {B = List A} (λ l. f 0 j ∷ f 1 j ∷ f 2 j ∷ l) (columns-last f (suc j) n ∙ ap (λ (m : ℕ). columns (suc j) n f ++ (f 0 m ∷ f 1 m ∷ f 2 m ∷ [])) (omega arith))
+    ap {B = List A} (λ l. f 0 j ∷ f 1 j ∷ f 2 j ∷ l)
+    (columns-last f (suc j) n ∙ ap (λ (m : ℕ). columns (suc j) n f ++ (f 0 m ∷ f 1 m ∷ f 2 m ∷ [])) (omega arith))
 
 pub fill-last : {A : Type 0} (f : ℕ → ℕ → A) (n : ℕ) → fill (suc n) f ≡ fill n f ++ (f 0 n ∷ f 1 n ∷ f 2 n ∷ [])
 fill-last f n = columns-last f 0 n ∙ ap (λ (m : ℕ). fill n f ++ (f 0 m ∷ f 1 m ∷ f 2 m ∷ [])) (zero-add n)

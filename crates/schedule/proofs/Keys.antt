@@ -7,7 +7,7 @@ use native.Mathlib.Omega.{arith}
 use native.Mathlib.Numerals.{add-one}
 use lib.ListN.{length, drop}
 use Rattle.schedule.specs.Columns.{plus, padded}
-use Rattle.sizes.specs.Sizes.{keyLength, sizeOf}
+use Rattle.sizes.specs.Sizes.{keyLength, tOf}
 use Rattle.sizes.proofs.Keys.{a-key}
 use Rattle.schedule.specs.Stages.{linearStep, constant, stage}
 use Rattle.schedule.proofs.Padded.{length-step, length-padded, next-held}
@@ -20,21 +20,23 @@ length-stage t key e (suc s) = length-step (2 * t) (plus (2 * t) (stage t key s)
 
 module _ (key : List ℕ) (h : keyLength (length key) ≡ true) where
   t : ℕ
-  t = sizeOf (length key)
+  t = tOf (length key)
 
-  pub key-length : length key ≡ 3 * (2 * sizeOf (length key))
+  pub key-length : length key ≡ 3 * (2 * tOf (length key))
   unfolding t
   key-length = omega (arith, a-key (length key) h .is)
 
   -- a stage of the key fills 24 bytes
-  pub held-length : (s : ℕ) (k : List ℕ) → k ≡ padded (stage (sizeOf (length key)) key s) → length k ≡ 24
+  pub held-length : (s : ℕ) (k : List ℕ) → k ≡ padded (stage (tOf (length key)) key s) → length k ≡ 24
   held-length s k e =
-      ap length e ∙ length-padded (stage (sizeOf (length key)) key s) (omega (arith, length-stage (sizeOf (length key)) key key-length s, a-key (length key) h .is, a-key (length key) h .most))
+      let a = a-key (length key) h in
+      let l = length-stage (tOf (length key)) key key-length s in
+      ap length e ∙ length-padded (stage (tOf (length key)) key s) (omega arith)
 
   -- the code's next stage is the key's
-  pub advanced : (s : ℕ) (k next : List ℕ) → k ≡ padded (stage (sizeOf (length key)) key s)
-      → next ≡ linearStep (2 * sizeOf (length key)) (plus (2 * sizeOf (length key)) k (constant (sizeOf (length key)) (s + 1))) ++ drop (6 * sizeOf (length key)) k
-      → next ≡ padded (stage (sizeOf (length key)) key (s + 1))
+  pub advanced : (s : ℕ) (k next : List ℕ) → k ≡ padded (stage (tOf (length key)) key s)
+      → next ≡ linearStep (2 * tOf (length key)) (plus (2 * tOf (length key)) k (constant (tOf (length key)) (s + 1))) ++ drop (6 * tOf (length key)) k
+      → next ≡ padded (stage (tOf (length key)) key (s + 1))
   unfolding t stage
   advanced s k next ek en =
       en

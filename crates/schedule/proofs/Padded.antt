@@ -3,8 +3,8 @@ use mathlib.Core.Path.{_≡_, refl, sym, ap, ap₂, _∙_}
 use mathlib.Core.List.{List, [], _∷_, _++_}
 use Prim.Native.Nat.{ℕ, _+_, _-_, _*_, _≤_, _<_}
 use native.Mathlib.Omega.{arith}
-use lib.ListN.{length, take, drop, replicate, length-append, length-replicate, List·getD-append}
-use lib.Seq.{getD-take, drop-at, length-front, length-take-le}
+use lib.ListN.{length, drop, replicate, length-append, length-replicate, List·getD-append}
+use lib.Seq.{drop-at, length-front, length-take-le}
 use lib.Dec.{lit<}
 use lib.Bits.{bitXor}
 use Rattle.field.specs.Field.{_⊕_, cubeRoot}
@@ -32,6 +32,10 @@ length-padded k h = omega (arith, length-append k (replicate (24 - length k) 0),
 pub length-kept : (m : ℕ) (x k : List ℕ) → length x ≡ m → m ≤ length k → length (x ++ drop m k) ≡ length k
 length-kept m x k e h = length-front k x m (e ∙ sym (length-take-le m k h))
 
+-- a stage of 2t columns put in the place of another in 24 bytes
+pub length-held : (t : ℕ) (x k : List ℕ) → t ≤ 4 → length x ≡ 3 * (2 * t) → length k ≡ 24 → length (x ++ drop (6 * t) k) ≡ 24
+length-held t x k m e l = length-kept (6 * t) x k (omega arith) (omega arith) ∙ l
+
 -- two stages that agree at every cell of n columns
 abbrev pub Agree : ℕ → List ℕ → List ℕ → Type 0
 Agree n a b = (i j : ℕ) → i < 3 → j < n → cell a i j ≡ cell b i j
@@ -44,13 +48,11 @@ pub padded-agrees : (n : ℕ) (k : List ℕ) → length k ≡ 3 * n → Agree n 
 unfolding padded
 padded-agrees n k e = front-agrees n k (replicate (24 - length k) 0) e
 
-pub taken-agrees : (t : ℕ) (k : List ℕ) → Agree (2 * t) (take (6 * t) k) k
-taken-agrees t k i j hi hj = getD-take (6 * t) k (i + 3 * j) 0 (omega arith)
-
 -- a stage put in the place of another in 24 bytes
 pub padded-kept : (m : ℕ) (x y : List ℕ) → length x ≡ m → length y ≡ m → x ++ drop m (padded y) ≡ padded x
 unfolding padded
-padded-kept m x y ex ey = ap (λ (l : List ℕ). x ++ l) (drop-at y (replicate (24 - length y) 0) m ey ∙ ap (λ (n : ℕ). replicate (24 - n) 0) (ey ∙ sym ex))
+padded-kept m x y ex ey =
+    ap (λ (l : List ℕ). x ++ l) (drop-at y (replicate (24 - length y) 0) m ey ∙ ap (λ (n : ℕ). replicate (24 - n) 0) (ey ∙ sym ex))
 
 pub plus-agrees : (n : ℕ) (a b x y : List ℕ) → Agree n a x → Agree n b y → plus n a b ≡ plus n x y
 unfolding plus
@@ -65,7 +67,8 @@ unfolding linearStep moved
 step-agrees n a b p =
     ap (columnRule cubeRoot n)
     (fill-path n (λ i j. cell a i (byRow i j (next n j) (previous n j))) (λ i j. cell b i (byRow i j (next n j) (previous n j)))
-    (λ i j hi hj. p i (byRow i j (next n j) (previous n j)) hi (in-range n i j (next n j) (previous n j) hj (wrap n j (j + 1) hj) (wrap n j (j + (n - 1)) hj))))
+    (λ i j hi hj.
+    p i (byRow i j (next n j) (previous n j)) hi (in-range n i j (next n j) (previous n j) hj (wrap n j (j + 1) hj) (wrap n j (j + (n - 1)) hj))))
 
 -- a step over a stage and what follows it
 pub step-kept : (t : ℕ) (k l : List ℕ) → length k ≡ 3 * (2 * t) → linearStep (2 * t) (k ++ l) ++ drop (6 * t) (k ++ l) ≡ linearStep (2 * t) k ++ l
@@ -73,22 +76,15 @@ step-kept t k l e =
     let e′ : 3 * (2 * t) ≡ 6 * t = omega arith in
     ap₂ _++_ (step-agrees (2 * t) (k ++ l) k (front-agrees (2 * t) k l e)) (drop-at k l (6 * t) (e ∙ e′))
 
--- steps over a stage in 24 bytes
+pub plus-kept : (t : ℕ) (k l a : List ℕ) → length k ≡ 3 * (2 * t) → plus (2 * t) (k ++ l) a ++ drop (6 * t) (k ++ l) ≡ plus (2 * t) k a ++ l
+plus-kept t k l a e =
+    let e′ : 3 * (2 * t) ≡ 6 * t = omega arith in
+    ap₂ _++_ (plus-agrees (2 * t) (k ++ l) a k a (front-agrees (2 * t) k l e) (λ i j hi hj. refl)) (drop-at k l (6 * t) (e ∙ e′))
+
+-- a step over a stage in 24 bytes
 module _ (t : ℕ) (x k : List ℕ) (e : k ≡ padded x) (l : length x ≡ 3 * (2 * t)) where
   sixes : 3 * (2 * t) ≡ 6 * t
   sixes = omega arith
-
-  pub step-held : linearStep (2 * t) k ++ drop (6 * t) k ≡ padded (linearStep (2 * t) x)
-  step-held =
-      ap (λ (y : List ℕ). linearStep (2 * t) y ++ drop (6 * t) y) e
-      ∙ padded-kept (6 * t) (linearStep (2 * t) (padded x)) x (length-step (2 * t) (padded x) ∙ sixes) (l ∙ sixes)
-      ∙ ap padded (step-agrees (2 * t) (padded x) x (padded-agrees (2 * t) x l))
-
-  pub plus-held : (a : List ℕ) → plus (2 * t) k a ++ drop (6 * t) k ≡ padded (plus (2 * t) x a)
-  plus-held a =
-      ap (λ (y : List ℕ). plus (2 * t) y a ++ drop (6 * t) y) e
-      ∙ padded-kept (6 * t) (plus (2 * t) (padded x) a) x (length-plus (2 * t) (padded x) a ∙ sixes) (l ∙ sixes)
-      ∙ ap padded (plus-padded (2 * t) x a l)
 
   pub next-held : (a : List ℕ) → linearStep (2 * t) (plus (2 * t) k a) ++ drop (6 * t) k ≡ padded (linearStep (2 * t) (plus (2 * t) x a))
   next-held a =

@@ -12,12 +12,6 @@ next-on n j h = sym (mod-eq-of-lt h)
 pub next-around : (n j : ℕ) → j < n → n ≤ j + 1 → 0 ≡ next n j
 next-around n j h l = sym (ap (λ (x : ℕ). x % n) (omega arith) ∙ mod-self n)
 
-pub previous-back : (n j : ℕ) → j < n → 0 < j → j - 1 ≡ previous n j
-previous-back n j h p = sym (ap (λ (x : ℕ). x % n) e ∙ add-mod-right (j - 1) n ∙ mod-eq-of-lt (omega arith))
-  where
-    e : j + (n - 1) ≡ j - 1 + n
-    e = omega arith
-
 pub previous-around : (n j : ℕ) → j < n → j ≤ 0 → n - 1 ≡ previous n j
 previous-around n j h z = sym (ap (λ (x : ℕ). x % n) e ∙ mod-eq-of-lt (omega arith))
   where

@@ -1,4 +1,4 @@
--- What the code makes of a stage, column after column: the columns done so far, then zeros to 24 bytes, or what stood there before.
+-- What the code makes of a stage: column after column in place, then what stood there before; or byte after byte, then zeros to 24 bytes.
 use mathlib.Core.Path.{_≡_, refl, sym, ap, _∙_}
 use mathlib.Core.Bool.{Bool, true, false, cond}
 use mathlib.Core.List.{List, [], _∷_, _++_, append-assoc}
@@ -38,33 +38,15 @@ set-past : (p q : List ℕ) (i a : ℕ) → set (p ++ q) (length p + i) a ≡ p 
 set-past [] q i a = ap (λ (x : ℕ). set q x a) (zero-add i)
 set-past (x ∷ p) q i a = ap (λ (m : ℕ). set (x ∷ (p ++ q)) m a) (suc-add (length p) i) ∙ ap {B = List ℕ} (λ l. x ∷ l) (set-past p q i a)
 
-put-past : (p q : List ℕ) (j a b c x y z : ℕ) → length p ≡ 3 * j → put-column (p ++ (a ∷ b ∷ c ∷ q)) j x y z ≡ (p ++ (x ∷ y ∷ z ∷ [])) ++ q
+put-past : (p q : List ℕ) (j a b c x y z : ℕ) → length p ≡ 3 * j
+    → put-column (p ++ (a ∷ b ∷ c ∷ q)) j x y z ≡ (p ++ (x ∷ y ∷ z ∷ [])) ++ q
 put-past p q j a b c x y z e =
-    ap (λ (l : List ℕ). set (set l (3 * j + 1) y) (3 * j + 2) z) (ap (λ (m : ℕ). set (p ++ (a ∷ b ∷ c ∷ q)) m x) (omega arith) ∙ set-past p (a ∷ b ∷ c ∷ q) 0 x)
-    ∙ ap (λ (l : List ℕ). set l (3 * j + 2) z) (ap (λ (m : ℕ). set (p ++ (x ∷ b ∷ c ∷ q)) m y) (omega arith) ∙ set-past p (x ∷ b ∷ c ∷ q) 1 y)
+    ap (λ (l : List ℕ). set (set l (3 * j + 1) y) (3 * j + 2) z)
+    (ap (λ (m : ℕ). set (p ++ (a ∷ b ∷ c ∷ q)) m x) (omega arith) ∙ set-past p (a ∷ b ∷ c ∷ q) 0 x)
+    ∙ ap (λ (l : List ℕ). set l (3 * j + 2) z)
+    (ap (λ (m : ℕ). set (p ++ (x ∷ b ∷ c ∷ q)) m y) (omega arith) ∙ set-past p (x ∷ b ∷ c ∷ q) 1 y)
     ∙ ap (λ (m : ℕ). set (p ++ (x ∷ y ∷ c ∷ q)) m z) (omega arith) ∙ set-past p (x ∷ y ∷ c ∷ q) 2 z
     ∙ sym (append-assoc p (x ∷ y ∷ z ∷ []) q)
-
-pub put-padded : (f : ℕ → ℕ → ℕ) (j : ℕ) → j < 8 → put-column (padded (fill j f)) j (f 0 j) (f 1 j) (f 2 j) ≡ padded (fill (suc j) f)
-unfolding padded
-put-padded f j h =
-    ap (λ (m : ℕ). put-column (fill j f ++ replicate m 0) j (f 0 j) (f 1 j) (f 2 j)) e
-    ∙ put-past (fill j f) (replicate (24 - length (fill (suc j) f)) 0) j 0 0 0 (f 0 j) (f 1 j) (f 2 j) (length-columns f 0 j)
-    ∙ ap (λ (l : List ℕ). l ++ replicate (24 - length (fill (suc j) f)) 0) (sym (fill-last f j))
-  where
-    e : 24 - length (fill j f) ≡ suc (suc (suc (24 - length (fill (suc j) f))))
-    e = omega (arith, length-columns f 0 j, length-columns f 0 (suc j))
-
--- one more column of the column rule
-pub ruled-column : (m : ℕ) (g : ℕ → ℕ → ℕ) (j : ℕ) (out : List ℕ) (x y z a : ℕ) → j < 8 → out ≡ padded (fill j (ruled m g))
-    → x ≡ g 0 j → y ≡ g 1 j → z ≡ g 2 j → a ≡ times m (x ⊕ (y ⊕ z))
-    → put-column out j (x ⊕ a) (y ⊕ a) (z ⊕ a) ≡ padded (fill (j + 1) (ruled m g))
-ruled-column m g j out x y z a h eo ex ey ez ea = cc (put-padded (ruled m g) j h, add-one j)
-
--- one more column of any stage
-pub written-column : (f : ℕ → ℕ → ℕ) (j : ℕ) (out : List ℕ) (x y z : ℕ) → j < 8 → out ≡ padded (fill j f) → x ≡ f 0 j → y ≡ f 1 j → z ≡ f 2 j
-    → put-column out j x y z ≡ padded (fill (j + 1) f)
-written-column f j out x y z h eo ex ey ez = cc (put-padded f j h, add-one j)
 
 -- ---- a stage written in place: j columns of f, then what stood there before
 abbrev pub upto : (ℕ → ℕ → ℕ) → ℕ → List ℕ → List ℕ
@@ -108,10 +90,12 @@ module _ (f : ℕ → ℕ → ℕ) (j : ℕ) (k out : List ℕ) (h : 3 * j + 2 <
 
   pub row-put : (x : ℕ) → x ≡ f 0 j → cell k 1 j ≡ f 1 j → cell k 2 j ≡ f 2 j → set out (3 * j) x ≡ upto f (j + 1) k
   row-put x ex ey ez =
+      let y = at (3 * j + 1) (1 + 3 * j) (omega arith) ∙ ey in
+      let z = at (3 * j + 2) (2 + 3 * j) (omega arith) ∙ ez in
       ap (λ (l : List ℕ). set l (3 * j) x) opened
       ∙ set-at (fill j f) _ _ x (3 * j) (length-columns f 0 j)
       ∙ sym (append-assoc (fill j f) (x ∷ getD k (3 * j + 1) 0 ∷ getD k (3 * j + 2) 0 ∷ []) (drop (3 * (j + 1)) k))
-      ∙ (λ i. (fill j f ++ (ex i ∷ (at (3 * j + 1) (1 + 3 * j) (omega arith) ∙ ey) i ∷ (at (3 * j + 2) (2 + 3 * j) (omega arith) ∙ ez) i ∷ [])) ++ drop (3 * (j + 1)) k)
+      ∙ (λ i. (fill j f ++ (ex i ∷ y i ∷ z i ∷ [])) ++ drop (3 * (j + 1)) k)
       ∙ closed
     where
       at : (a b : ℕ) → a ≡ b → getD k a 0 ≡ getD k b 0
@@ -131,7 +115,8 @@ module _ (n : ℕ) (k out : List ℕ) (j : ℕ) (h : j < n) (e : out ≡ upto (s
 
   pub column-stepped : (x y z a : ℕ) → 3 * j + 2 < length k → x ≡ cell k 0 j → y ≡ cell k 1 (next n j) → z ≡ cell k 2 (previous n j)
       → a ≡ times cubeRoot (x ⊕ (y ⊕ z)) → put-column out j (x ⊕ a) (y ⊕ a) (z ⊕ a) ≡ upto (stepped n k) (j + 1) k
-  column-stepped x y z a l ex ey ez ea = column-put (stepped n k) j k out l e (x ⊕ a) (y ⊕ a) (z ⊕ a) (cc (ex, ey, ez, ea)) (cc (ex, ey, ez, ea)) (cc (ex, ey, ez, ea))
+  column-stepped x y z a l ex ey ez ea =
+      column-put (stepped n k) j k out l e (x ⊕ a) (y ⊕ a) (z ⊕ a) (cc (ex, ey, ez, ea)) (cc (ex, ey, ez, ea)) (cc (ex, ey, ez, ea))
 
 -- ---- a stage written byte after byte
 pub padded-next : (k : List ℕ) (i : ℕ) → i < length k → length k ≤ 24 → set (padded (take i k)) i (getD k i 0) ≡ padded (take (i + 1) k)

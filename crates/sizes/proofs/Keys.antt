@@ -5,7 +5,7 @@ use Prim.Native.Nat.{ℕ, _*_, _≤_}
 use native.Mathlib.Omega.{arith}
 use lib.Dec.{eqb, leb}
 use borrow.Author.Tests.{eqb-true, leb-true}
-use Rattle.sizes.specs.Sizes.{Sized, keyLength, sizeOf}
+use Rattle.sizes.specs.Sizes.{Sized, keyLength, tOf}
 
 either {ℓ} : (P : Type ℓ) (a b : Bool) → (a || b) ≡ true → (a ≡ true → P) → (b ≡ true → P) → P
 either P true b e f g = f refl
@@ -18,15 +18,15 @@ lengths P a b c n e =
     (λ y. either (P n) (eqb n 18) (eqb n 24) y (λ x. subst P (sym (eqb-true n 18 x)) b) (λ x. subst P (sym (eqb-true n 24 x)) c))
 
 abbrev Tested : ℕ → Type 0
-Tested n = (6 * sizeOf n ≡ n) × ((leb 2 (sizeOf n) ≡ true) × (leb (sizeOf n) 4 ≡ true))
+Tested n = (6 * tOf n ≡ n) × ((leb 2 (tOf n) ≡ true) × (leb (tOf n) 4 ≡ true))
 
 pub record Key (n : ℕ) : Type 0 where
-  pub sized : Sized (sizeOf n)
-  pub is : 6 * sizeOf n ≡ n
+  pub sized : Sized (tOf n)
+  pub is : 6 * tOf n ≡ n
   pub most : n ≤ 24
 
 pub a-key : (n : ℕ) → keyLength n ≡ true → Key n
 a-key n e =
     let t = lengths Tested (refl, (refl, refl)) (refl, (refl, refl)) (refl, (refl, refl)) n e in
-    let most = leb-true (sizeOf n) 4 (t .1 .1) in
-    record { sized = record { least = leb-true 2 (sizeOf n) (t .1 .0); most = most }; is = t .0; most = omega (arith, t .0, most) }
+    let most = leb-true (tOf n) 4 (t .1 .1) in
+    record { sized = record { least = leb-true 2 (tOf n) (t .1 .0); most = most }; is = t .0; most = omega (arith, t .0, most) }

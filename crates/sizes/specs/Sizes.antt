@@ -1,7 +1,6 @@
 -- Key sizes: document 01, "Key sizes and rounds"; paper 000, section 3 and Table 2. A key has 6t bytes for t = 2, 3 or 4.
 use mathlib.Core.Bool.{Bool, _&&_, _||_}
-use mathlib.Core.Path.{_≡_}
-use Prim.Native.Nat.{ℕ, _+_, _-_, _*_, _/_, _≤_, _<_}
+use Prim.Native.Nat.{ℕ, _+_, _-_, _*_, _/_, _≤_}
 use lib.Dec.{eqb, leb}
 use Rattle.sizes.specs.declared.KeySize.{KeySize}
 
@@ -25,12 +24,12 @@ abbrev pub keyLength : ℕ → Bool
 keyLength n = eqb n 12 || (eqb n 18 || eqb n 24)
 
 -- the t of a key of 6t bytes
-abbrev pub sizeOf : ℕ → ℕ
-sizeOf n = n / 6
+abbrev pub tOf : ℕ → ℕ
+tOf n = n / 6
 
--- the table's row for a key of n bytes allows this many rounds
+-- the table has a row for a key of n bytes, and it allows this many rounds
 abbrev pub roundsAllowed : ℕ → ℕ → Bool
-roundsAllowed n rounds = leb (leastRounds (sizeOf n)) rounds && leb rounds (mostRounds (sizeOf n))
+roundsAllowed n rounds = keyLength n && (leb (leastRounds (tOf n)) rounds && leb rounds (mostRounds (tOf n)))
 
 -- what the code is handed with a t: it is 2, 3 or 4
 pub record Sized (t : ℕ) : Type 0 where

@@ -2,7 +2,8 @@
 
 ghost use mathlib.Core.Path.{_≡_};
 ghost use mathlib.Core.Bool.{true};
-ghost use Rattle.sizes.specs.Sizes.{turn, keyLength, sizeFor, sizeOf, roundsAllowed, Sized};
+ghost use Rattle.sizes.specs.Sizes.{turn, keyLength, sizeFor, tOf, roundsAllowed, Sized};
+use basics::either;
 
 // A row of the table of key sizes.
 pub struct KeySize {
@@ -83,13 +84,10 @@ impl Key192 {
 pub fn is_key_length(n: usize) -> bool
     ensures { λ r. ⌜ r ≡ keyLength n ⌝ }
 {
-    if n == Key96::KEY_BYTES {
-        return true;
-    }
-    if n == Key144::KEY_BYTES {
-        return true;
-    }
-    n == Key192::KEY_BYTES
+    either(
+        n == Key96::KEY_BYTES,
+        either(n == Key144::KEY_BYTES, n == Key192::KEY_BYTES),
+    )
 }
 
 // The table's row for t.
@@ -109,7 +107,7 @@ pub fn size_for(t: usize) -> KeySize
 // The table's row for a key of n bytes.
 pub fn size_of_key(n: usize) -> KeySize
     requires { ⌜ keyLength n ≡ true ⌝ }
-    ensures { λ r. ⌜ r ≡ sizeFor (sizeOf n) ⌝ }
+    ensures { λ r. ⌜ r ≡ sizeFor (tOf n) ⌝ }
 {
     size_for(n / 6)
 }
@@ -123,19 +121,20 @@ pub fn turn_for(t: usize) -> usize
     size.turn
 }
 
-// The number of stages in a turn, for a key of n bytes.
+// The number of stages in a turn, for a key of n bytes: six for each of its t.
 pub fn turn_of_key(n: usize) -> usize
-    requires { ⌜ keyLength n ≡ true ⌝ }
-    ensures { λ r. ⌜ r ≡ turn (sizeOf n) ⌝ }
+    ensures { λ r. ⌜ r ≡ turn (tOf n) ⌝ }
 {
-    turn_for(n / 6)
+    6 * (n / 6)
 }
 
-// The table's row for a key of n bytes allows this many rounds.
+// The table has a row for a key of n bytes, and it allows this many rounds.
 pub fn is_round_count(n: usize, rounds: u32) -> bool
-    requires { ⌜ keyLength n ≡ true ⌝ }
     ensures { λ r. ⌜ r ≡ roundsAllowed n rounds ⌝ }
 {
+    if !is_key_length(n) {
+        return false;
+    }
     let size = size_of_key(n);
     let least = size.least;
     let most = size.most;

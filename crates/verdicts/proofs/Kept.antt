@@ -10,13 +10,13 @@ use lib.Seq.{take-suc, take-all}
 use borrow.Author.Tests.{eq-eqb, ne-eqb}
 use Rattle.refusal.specs.Tries.{Try}
 use Rattle.refusal.proofs.Answers.{answer-refused, answer-done}
-use Rattle.blocks.specs.Blocks.{AreBytes}
+use Rattle.basics.specs.Bytes.{AreBytes}
 use Rattle.histories.specs.Histories.{enter, withdraw}
-use Rattle.capi.specs.Codes.{callCode}
-use Rattle.capi.specs.Hosts.{issueCallTries, issueCallNumber, issueCallOutput}
-use Rattle.boxes.specs.Boxes.{called, bytesAfter, CallIssued, grantGiven}
-use Rattle.boxes.specs.Claims.{CallsRevoke}
-use Rattle.boxes.proofs.Claims.{calls-revoke}
+use Rattle.check_call.specs.CheckCall.{callCode}
+use Rattle.roll_calls.specs.RollCalls.{issueCallTries, issueCallNumber, issueCallOutput}
+use Rattle.call_claims.specs.CallHistories.{called, bytesAfter, CallIssued, grantGiven}
+use Rattle.call_claims.specs.Claims.{CallsRevoke}
+use Rattle.call_claims.proofs.Claims.{calls-revoke}
 use Rattle.verdicts.specs.Decisions.{changeFrom, changesFrom, Revoked, keptCode, keptRoll}
 
 -- ---- the calls, one after the other
@@ -55,27 +55,28 @@ module _ (key : List ℕ) (rounds : ℕ) (roll : List ℕ) (contractor block rig
   -- what the function promises of its answer and of the roll
   abbrev pub Kept : ℕ → List ℕ → Type 0
   Kept code after =
-      Revoked key rounds roll contractor right calls out code
-      × ((code ≡ keptCode key rounds roll contractor block right calls asked access out) × (after ≡ keptRoll key rounds roll contractor right calls out))
+      Revoked key rounds roll contractor block right calls out code
+      × ((code ≡ keptCode key rounds roll contractor block right calls asked access out)
+      × (after ≡ keptRoll key rounds roll contractor block right calls out))
 
   ts : List Try
-  ts = issueCallTries key rounds roll contractor right out
+  ts = issueCallTries key rounds roll contractor block right out
 
   given : ℕ
   given = callCode key rounds (bytesAfter (changesFrom calls) roll) (grantGiven key rounds roll contractor block right out) asked access
 
-  pub kept-refused : (n : ℕ) → n ≡ issueCallNumber key rounds roll contractor right out → (n ≡ 0 → ⊥) → Kept n roll
+  pub kept-refused : (n : ℕ) → n ≡ issueCallNumber key rounds roll contractor block right out → (n ≡ 0 → ⊥) → Kept n roll
   unfolding keptCode keptRoll ts given
   kept-refused n e d =
       let p : 0 < n = omega (arith, d) in (
         record { refused = λ z w. absurd (d (e ∙ z)) },
         (
-          e ∙ answer-refused ts n given (issueCallNumber key rounds roll contractor right out) p (sym e),
+          e ∙ answer-refused ts n given (issueCallNumber key rounds roll contractor block right out) p (sym e),
           answer-refused ts n (bytesAfter (changesFrom calls) roll) roll p (sym e),
         ),
       )
 
-  pub kept-checked : issueCallNumber key rounds roll contractor right out ≡ 0 → AreBytes key → AreBytes roll → block < 4294967296
+  pub kept-checked : issueCallNumber key rounds roll contractor block right out ≡ 0 → AreBytes key → AreBytes roll → block < 4294967296
       → (w : List ℕ) → w ≡ issueCallOutput key rounds roll contractor block right out
       → (after : List ℕ) → after ≡ bytesAfter (changesFrom calls) roll
       → (code : ℕ) → code ≡ callCode key rounds after (take 12 w) asked access → Kept code after
@@ -89,7 +90,7 @@ module _ (key : List ℕ) (rounds : ℕ) (roll : List ℕ) (contractor block rig
               (calls-revoke key rounds roll contractor block right out i (changesFrom calls) h asked access);
         },
         (
-          g ∙ answer-done ts given (issueCallNumber key rounds roll contractor right out) e,
+          g ∙ answer-done ts given (issueCallNumber key rounds roll contractor block right out) e,
           ea ∙ answer-done ts (bytesAfter (changesFrom calls) roll) roll e,
         ),
       )

@@ -10,7 +10,7 @@ use Rattle.refusal.specs.Reasons.{reasonNumber}
 use Rattle.refusal.specs.Tries.{written, answered}
 use Rattle.refusal.proofs.Reasons.{reason-positive}
 use Rattle.refusal.proofs.Answers.{starts, answer-refused, answer-done}
-use Rattle.blocks.specs.Blocks.{AreBytes}
+use Rattle.basics.specs.Bytes.{AreBytes}
 use Rattle.cipher.specs.Cipher.{cipherBlock}
 use Rattle.roll.specs.declared.Roll.{Roll}
 use Rattle.roll.specs.Roll.{rollOf}
@@ -20,13 +20,13 @@ use Rattle.grant.specs.Grants.{verdictNumber, verdictContractor, verdictRight}
 use Rattle.grant.specs.Calls.{issueTries, issueNumber, issuedGrant, issueOutput, checkNumber, checkContractor, checkRight}
 use Rattle.revocation.specs.Claims.{OpensExactlyWhen, IssuedOpens}
 use Rattle.revocation.proofs.Claims.{opens-exactly-when, issued-opens}
-use Rattle.capi.specs.Codes.{callCode}
-use Rattle.capi.specs.Hosts.{issueCallTries, issueCallNumber, issueCallOutput}
-use Rattle.capi.specs.Claims.{CallOpensExactlyWhen, CallNeverZero}
-use Rattle.capi.proofs.Claims.{call-opens-exactly-when, call-never-zero}
-use Rattle.boxes.specs.Boxes.{CallIssued}
-use Rattle.boxes.specs.Claims.{CallIssuedOpens}
-use Rattle.boxes.proofs.Claims.{call-issued-opens}
+use Rattle.check_call.specs.CheckCall.{callCode}
+use Rattle.roll_calls.specs.RollCalls.{issueCallTries, issueCallNumber, issueCallOutput}
+use Rattle.call_claims.specs.Claims.{CallOpensExactlyWhen, CallNeverZero}
+use Rattle.call_claims.proofs.Claims.{call-opens-exactly-when, call-never-zero}
+use Rattle.call_claims.specs.CallHistories.{CallIssued}
+use Rattle.call_claims.specs.Claims.{CallIssuedOpens}
+use Rattle.call_claims.proofs.Claims.{call-issued-opens}
 use Rattle.verdicts.specs.Decisions.{OpensFor, Decides, CallDecides, issuedCode}
 
 -- a verdict by its three numbers
@@ -75,13 +75,13 @@ twelve key rounds roll c b r = refl
 -- ---- what was issued
 module _ (key : List ℕ) (rounds : ℕ) (roll : Roll) (contractor block right : ℕ) (out : List ℕ) where
   -- an output that was written starts with the grant
-  module _ (e : issueNumber key rounds roll contractor right out ≡ 0) (w : List ℕ)
+  module _ (e : issueNumber key rounds roll contractor block right out ≡ 0) (w : List ℕ)
       (ew : w ≡ issueOutput key rounds roll contractor block right out) where
     begins : (12 ≤ length w) × (take 12 w ≡ issuedGrant key rounds roll contractor block right)
     unfolding issueOutput
     begins =
         let g = issuedGrant key rounds roll contractor block right in
-        began (issueNumber key rounds roll contractor right out) g out w (twelve key rounds roll contractor block right) e ew
+        began (issueNumber key rounds roll contractor block right out) g out w (twelve key rounds roll contractor block right) e ew
 
     pub room : 12 ≤ length w
     room = begins .0
@@ -91,26 +91,26 @@ module _ (key : List ℕ) (rounds : ℕ) (roll : Roll) (contractor block right :
 
   -- a verdict by its numbers: the issue's refusal, or the contractor and the right of the grant
   abbrev pub Answers : Verdict → Type 0
-  Answers v = (verdictNumber v ≡ issueNumber key rounds roll contractor right out)
-      × ((verdictContractor v ≡ answered (issueNumber key rounds roll contractor right out) contractor 0)
-      × (verdictRight v ≡ answered (issueNumber key rounds roll contractor right out) right 0))
+  Answers v = (verdictNumber v ≡ issueNumber key rounds roll contractor block right out)
+      × ((verdictContractor v ≡ answered (issueNumber key rounds roll contractor block right out) contractor 0)
+      × (verdictRight v ≡ answered (issueNumber key rounds roll contractor block right out) right 0))
 
   -- where the issue refused
-  pub refused-first : (r : Reason) → reasonNumber r ≡ issueNumber key rounds roll contractor right out → Answers (Refused r)
+  pub refused-first : (r : Reason) → reasonNumber r ≡ issueNumber key rounds roll contractor block right out → Answers (Refused r)
   refused-first r e =
-      let ts = issueTries key rounds roll contractor right out in
+      let ts = issueTries key rounds roll contractor block right out in
       let p : 0 < reasonNumber r = reason-positive r in
       (e, (answer-refused ts (reasonNumber r) contractor 0 p (sym e), answer-refused ts (reasonNumber r) right 0 p (sym e)))
 
   -- where it did not, and the check was asked
-  pub opened : AreBytes key → block < 4294967296 → issueNumber key rounds roll contractor right out ≡ 0
+  pub opened : AreBytes key → block < 4294967296 → issueNumber key rounds roll contractor block right out ≡ 0
       → (w : List ℕ) → w ≡ issueOutput key rounds roll contractor block right out
       → (v : Verdict) → (verdictNumber v ≡ checkNumber key rounds roll (take 12 w) block right)
       × ((verdictContractor v ≡ checkContractor key rounds roll (take 12 w) block right)
       × (verdictRight v ≡ checkRight key rounds roll (take 12 w) block right)) → Answers v
   unfolding IssuedOpens
   opened hk few e w ew v h =
-      let ts = issueTries key rounds roll contractor right out in
+      let ts = issueTries key rounds roll contractor block right out in
       let a = issued-opens key rounds roll contractor block right out record { key-bytes = hk; block-small = few; number = e } .opens in
       let eg = first-twelve e w ew in (
         h .0 ∙ ap (λ (g : List ℕ). checkNumber key rounds roll g block right) eg ∙ a .number ∙ sym e,
@@ -122,27 +122,27 @@ module _ (key : List ℕ) (rounds : ℕ) (roll : Roll) (contractor block right :
 
 -- ---- the same of the C calls
 module _ (key : List ℕ) (rounds : ℕ) (roll : List ℕ) (contractor block right : ℕ) (out : List ℕ) where
-  pub call-refused-first : (n : ℕ) → n ≡ issueCallNumber key rounds roll contractor right out → (n ≡ 0 → ⊥)
-      → n ≡ issuedCode key rounds roll contractor right out
+  pub call-refused-first : (n : ℕ) → n ≡ issueCallNumber key rounds roll contractor block right out → (n ≡ 0 → ⊥)
+      → n ≡ issuedCode key rounds roll contractor block right out
   unfolding issuedCode
   call-refused-first n e d =
-      let ts = issueCallTries key rounds roll contractor right out in
-      e ∙ answer-refused ts n (1000 * right + contractor) (issueCallNumber key rounds roll contractor right out) (omega (arith, d)) (sym e)
+      let ts = issueCallTries key rounds roll contractor block right out in
+      e ∙ answer-refused ts n (1000 * right + contractor) (issueCallNumber key rounds roll contractor block right out) (omega (arith, d)) (sym e)
 
-  module _ (e : issueCallNumber key rounds roll contractor right out ≡ 0) (w : List ℕ)
+  module _ (e : issueCallNumber key rounds roll contractor block right out ≡ 0) (w : List ℕ)
       (ew : w ≡ issueCallOutput key rounds roll contractor block right out) where
     pub call-room : 12 ≤ length w
     unfolding issueCallOutput
     call-room =
         let g = issuedGrant key rounds (rollOf roll) contractor block right in
-        began (issueCallNumber key rounds roll contractor right out) g out w (twelve key rounds (rollOf roll) contractor block right) e ew .0
+        began (issueCallNumber key rounds roll contractor block right out) g out w (twelve key rounds (rollOf roll) contractor block right) e ew .0
 
     pub call-opened : AreBytes key → AreBytes roll → block < 4294967296
-        → (code : ℕ) → code ≡ callCode key rounds roll (take 12 w) block right → code ≡ issuedCode key rounds roll contractor right out
+        → (code : ℕ) → code ≡ callCode key rounds roll (take 12 w) block right → code ≡ issuedCode key rounds roll contractor block right out
     unfolding CallIssuedOpens issuedCode
     call-opened hk hr few code ec =
         let i : CallIssued key rounds roll contractor block right out = record { key-bytes = hk; roll-bytes = hr; block-small = few; number = e } in
         ec ∙ ap (λ (w : List ℕ). callCode key rounds roll (take 12 w) block right) ew
         ∙ call-issued-opens key rounds roll contractor block right out i
-        ∙ answer-done (issueCallTries key rounds roll contractor right out) (1000 * right + contractor)
-        (issueCallNumber key rounds roll contractor right out) e
+        ∙ answer-done (issueCallTries key rounds roll contractor block right out) (1000 * right + contractor)
+        (issueCallNumber key rounds roll contractor block right out) e

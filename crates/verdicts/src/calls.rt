@@ -1,14 +1,21 @@
-// The same through the C calls, on a roll of 400 bytes.
+// The same through the C calls, on a roll's bytes.
 
 ghost use mathlib.Core.Path.{_≡_};
-ghost use Rattle.capi.specs.Hosts.{issueCallOutput};
+ghost use Rattle.roll_calls.specs.RollCalls.{issueCallOutput};
 ghost use Rattle.verdicts.specs.Decisions.{CallDecides, issuedCode};
 
 // The answer of the plotter's call.
-pub fn call_check(key: &[u8], rounds: u32, roll: &[u8], grant: &[u8], block: u32, right: u32) -> u32
-    ensures { λ r. ⌜ CallDecides (now (key .entry)) rounds (now (roll .entry)) (now (grant .entry)) block right r ⌝ }
+pub fn call_check(
+    key: &[u8],
+    rounds: u32,
+    roll: &[u8],
+    grant: &[u8],
+    size_block: u32,
+    right: u32,
+) -> u32
+    ensures { λ r. ⌜ CallDecides (now (key .entry)) rounds (now (roll .entry)) (now (grant .entry)) «size_block» right r ⌝ }
 {
-    capi::gordzila_check(key, rounds, roll, grant, block, right)
+    capi::gordzila_check(key, rounds, roll, grant, size_block, right)
 }
 
 // Issues a grant, and checks the twelve bytes that were written: the number of the refusal to issue, or 1,000 times the right plus the
@@ -18,16 +25,17 @@ pub fn call_issue_then_check(
     rounds: u32,
     roll: &[u8],
     contractor: u32,
-    block: u32,
+    size_block: u32,
     right: u32,
     out: &mut [u8],
 ) -> u32
-    ensures { λ r. ⌜ r ≡ issuedCode (now (key .entry)) rounds (now (roll .entry)) contractor right (now (out .entry)) ⌝ }
-    ensures { λ _. ⌜ now (out .exit) ≡ issueCallOutput (now (key .entry)) rounds (now (roll .entry)) contractor block right (now (out .entry)) ⌝ }
+    ensures { λ r. ⌜ r ≡ issuedCode (now (key .entry)) rounds (now (roll .entry)) contractor «size_block» right (now (out .entry)) ⌝ }
+    ensures { λ _. ⌜ now (out .exit) ≡ issueCallOutput (now (key .entry)) rounds (now (roll .entry)) contractor «size_block» right
+        (now (out .entry)) ⌝ }
 {
-    let number = capi::gordzila_issue(key, rounds, roll, contractor, block, right, out);
+    let number = capi::gordzila_issue(key, rounds, roll, contractor, size_block, right, out);
     if number != 0 {
         return number;
     }
-    capi::gordzila_check(key, rounds, roll, &out[..12], block, right)
+    capi::gordzila_check(key, rounds, roll, &out[..12], size_block, right)
 }

@@ -10,10 +10,17 @@ use refusal::Outcome;
 use roll::Roll;
 
 // The verdict on a grant.
-pub fn check(key: &[u8], rounds: u32, roll: Roll, grant: &[u8], block: u32, right: u32) -> Verdict
-    ensures { λ r. ⌜ Decides (now (key .entry)) rounds roll (now (grant .entry)) block right r ⌝ }
+pub fn check(
+    key: &[u8],
+    rounds: u32,
+    roll: Roll,
+    grant: &[u8],
+    size_block: u32,
+    right: u32,
+) -> Verdict
+    ensures { λ r. ⌜ Decides (now (key .entry)) rounds roll (now (grant .entry)) «size_block» right r ⌝ }
 {
-    grant::check(key, rounds, roll, grant, block, right)
+    grant::check(key, rounds, roll, grant, size_block, right)
 }
 
 // Issues a grant, and checks the twelve bytes that were written, on the same roll, for the same size block and right: wherever the issue does
@@ -23,18 +30,20 @@ pub fn issue_then_check(
     rounds: u32,
     roll: Roll,
     contractor: u32,
-    block: u32,
+    size_block: u32,
     right: u32,
     out: &mut [u8],
 ) -> Verdict
-    ensures { λ r. ⌜ verdictNumber r ≡ issueNumber (now (key .entry)) rounds roll contractor right (now (out .entry)) ⌝ }
-    ensures { λ r. ⌜ verdictContractor r ≡ answered (issueNumber (now (key .entry)) rounds roll contractor right (now (out .entry))) contractor 0 ⌝ }
-    ensures { λ r. ⌜ verdictRight r ≡ answered (issueNumber (now (key .entry)) rounds roll contractor right (now (out .entry))) right 0 ⌝ }
-    ensures { λ _. ⌜ now (out .exit) ≡ issueOutput (now (key .entry)) rounds roll contractor block right (now (out .entry)) ⌝ }
+    ensures { λ r. ⌜ verdictNumber r ≡ issueNumber (now (key .entry)) rounds roll contractor «size_block» right (now (out .entry)) ⌝ }
+    ensures { λ r. ⌜ verdictContractor r ≡ answered
+        (issueNumber (now (key .entry)) rounds roll contractor «size_block» right (now (out .entry))) contractor 0 ⌝ }
+    ensures { λ r. ⌜ verdictRight r ≡ answered
+        (issueNumber (now (key .entry)) rounds roll contractor «size_block» right (now (out .entry))) right 0 ⌝ }
+    ensures { λ _. ⌜ now (out .exit) ≡ issueOutput (now (key .entry)) rounds roll contractor «size_block» right (now (out .entry)) ⌝ }
 {
-    let outcome = grant::issue(key, rounds, roll, contractor, block, right, out);
+    let outcome = grant::issue(key, rounds, roll, contractor, size_block, right, out);
     match outcome {
-        Outcome::Done => grant::check(key, rounds, roll, &out[..12], block, right),
+        Outcome::Done => grant::check(key, rounds, roll, &out[..12], size_block, right),
         Outcome::Refused(reason) => Verdict::Refused(reason),
     }
 }

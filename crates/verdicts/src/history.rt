@@ -1,8 +1,8 @@
-// A grant that a plotter box keeps while others change the roll: issued, then a list of calls on the roll's 400 bytes, then checked.
+// A grant that a plotter box keeps while others change the roll: issued, then a list of calls on the roll's bytes, then checked.
 
 ghost use mathlib.Core.Path.{_≡_};
-ghost use Rattle.capi.specs.Hosts.{issueCallOutput};
-ghost use Rattle.boxes.specs.Boxes.{called, bytesAfter};
+ghost use Rattle.roll_calls.specs.RollCalls.{issueCallOutput};
+ghost use Rattle.call_claims.specs.CallHistories.{called, bytesAfter};
 ghost use Rattle.verdicts.specs.Decisions.{changeFrom, changesFrom, Revoked, keptCode, keptRoll};
 
 // One call of the list.
@@ -34,21 +34,22 @@ pub fn call_issue_change_check(
     rounds: u32,
     roll: &mut [u8],
     contractor: u32,
-    block: u32,
+    size_block: u32,
     right: u32,
     calls: &[u32],
     asked: u32,
     access: u32,
     out: &mut [u8],
 ) -> u32
-    ensures { λ r. ⌜ Revoked (now (key .entry)) rounds (now (roll .entry)) contractor right (now (calls .entry)) (now (out .entry)) r ⌝ }
-    ensures { λ r. ⌜ r ≡ keptCode (now (key .entry)) rounds (now (roll .entry)) contractor block right (now (calls .entry)) asked access
+    ensures { λ r. ⌜ Revoked (now (key .entry)) rounds (now (roll .entry)) contractor «size_block» right (now (calls .entry)) (now (out .entry)) r ⌝ }
+    ensures { λ r. ⌜ r ≡ keptCode (now (key .entry)) rounds (now (roll .entry)) contractor «size_block» right (now (calls .entry)) asked access
         (now (out .entry)) ⌝ }
-    ensures { λ _. ⌜ now (roll .exit) ≡ keptRoll (now (key .entry)) rounds (now (roll .entry)) contractor right (now (calls .entry))
+    ensures { λ _. ⌜ now (roll .exit) ≡ keptRoll (now (key .entry)) rounds (now (roll .entry)) contractor «size_block» right (now (calls .entry))
         (now (out .entry)) ⌝ }
-    ensures { λ _. ⌜ now (out .exit) ≡ issueCallOutput (now (key .entry)) rounds (now (roll .entry)) contractor block right (now (out .entry)) ⌝ }
+    ensures { λ _. ⌜ now (out .exit) ≡ issueCallOutput (now (key .entry)) rounds (now (roll .entry)) contractor «size_block» right
+        (now (out .entry)) ⌝ }
 {
-    let number = capi::gordzila_issue(key, rounds, roll, contractor, block, right, out);
+    let number = capi::gordzila_issue(key, rounds, roll, contractor, size_block, right, out);
     if number != 0 {
         return number;
     }

@@ -1,6 +1,8 @@
 //! The calls of the C interface, and what the header says of each: what it is given, and the order
 //! of its reasons for refusing.
 
+use crate::order;
+
 /// A call.
 #[derive(Clone, Copy, Debug, PartialEq, Eq, Hash)]
 pub enum Call {
@@ -51,6 +53,12 @@ impl Call {
         Call::Subkey,
     ];
 
+    /// The place among all calls.
+    pub fn place(self) -> usize {
+        let found = Call::ALL.iter().position(|&other| other == self);
+        found.expect("every call is among all calls")
+    }
+
     /// The name, without the prefix that all have.
     pub fn name(self) -> &'static str {
         match self {
@@ -91,70 +99,33 @@ impl Call {
 
     /// The reasons for which the call refuses, in their order.
     pub fn reasons(self) -> &'static [u32] {
-        match self {
-            Call::Encipher | Call::Decipher => &[1, 2, 3, 4],
-            Call::PrepareEnciphering | Call::PrepareDeciphering => &[1, 2, 4],
-            Call::Run => &[5, 3, 4],
-            Call::Issue => &[1, 2, 3, 4, 6, 7, 20],
-            Call::Check => &[1, 2, 3, 7, 8, 9, 10, 20, 23],
-            Call::Enter => &[3, 6, 21, 22],
-            Call::Withdraw => &[3, 6, 20],
-            Call::Stage | Call::Subkey => &[1, 5, 4],
-        }
+        order::of(self)
     }
 
-    /// The reasons that can hold together, the one that is given first. A reason that has no
-    /// meaning where another holds is not paired with it: without a right key length no round count
-    /// is wrong, and without a roll nobody is in standing.
-    pub fn pairs(self) -> &'static [(u32, u32)] {
-        match self {
-            Call::Encipher | Call::Decipher => &[(1, 3), (1, 4), (2, 3), (2, 4), (3, 4)],
-            Call::PrepareEnciphering | Call::PrepareDeciphering => &[(1, 4), (2, 4)],
-            Call::Run => &[(5, 3), (5, 4), (3, 4)],
-            Call::Issue => &ISSUE_PAIRS,
-            Call::Check => &CHECK_PAIRS,
-            Call::Enter | Call::Withdraw => &[(3, 6)],
-            Call::Stage | Call::Subkey => &[(1, 4), (5, 4)],
-        }
+    /// The reasons that can hold together, the one that is given first.
+    pub fn pairs(self) -> Vec<(u32, u32)> {
+        let reasons = self.reasons().iter().enumerate();
+        let all = reasons.flat_map(|(place, &first)| {
+            let later = self.reasons()[place + 1..].iter();
+            later.map(move |&other| (first, other))
+        });
+        all.filter(|&(one, other)| !self.silences(one, other) && !self.silences(other, one))
+            .collect()
+    }
+
+    /// Whether a reason has no meaning where another holds: without a right key length no round
+    /// count and no stage is wrong, nothing is deciphered that is not whole, and without a roll and
+    /// a contractor nobody is in standing. And nobody in standing has a count that is spent.
+    fn silences(self, holding: u32, other: u32) -> bool {
+        let silent: &[u32] = match (self, holding) {
+            (Call::Check, 1) => &[2, 8, 9, 10, 20, 23],
+            (Call::Check, 2 | 3) => &[8, 9, 10, 20, 23],
+            (Call::Check, 8) => &[9, 10, 20, 23],
+            (_, 1) => &[2, 5],
+            (_, 3 | 6) => &[20, 21, 22],
+            (_, 21) => &[22],
+            _ => &[],
+        };
+        silent.contains(&other)
     }
 }
-
-const ISSUE_PAIRS: [(u32, u32); 18] = [
-    (1, 3),
-    (1, 4),
-    (1, 6),
-    (1, 7),
-    (1, 20),
-    (2, 3),
-    (2, 4),
-    (2, 6),
-    (2, 7),
-    (2, 20),
-    (3, 4),
-    (3, 6),
-    (3, 7),
-    (4, 6),
-    (4, 7),
-    (4, 20),
-    (6, 7),
-    (7, 20),
-];
-
-const CHECK_PAIRS: [(u32, u32); 16] = [
-    (1, 3),
-    (1, 7),
-    (2, 3),
-    (2, 7),
-    (3, 7),
-    (7, 8),
-    (7, 9),
-    (7, 10),
-    (7, 20),
-    (7, 23),
-    (9, 10),
-    (9, 20),
-    (9, 23),
-    (10, 20),
-    (10, 23),
-    (20, 23),
-];

@@ -21,6 +21,9 @@ const LIST_LENGTHS: RangeInclusive<usize> = 132..=288;
 /// The least count at which nobody is entered.
 const SPENT: u16 = 65_534;
 
+/// The reasons of a check that are seen in what was deciphered.
+const SEEN_IN_A_GRANT: [u32; 5] = [8, 9, 10, 20, 23];
+
 /// What a call does.
 #[derive(Clone, Debug, PartialEq, Eq)]
 pub struct Effect {
@@ -77,23 +80,23 @@ pub fn needed(case: &Case) -> u64 {
     }
 }
 
-/// All reasons that hold, in the order of the call. Left out is what has no meaning because of an
-/// earlier reason.
+/// All reasons that hold, in the order of the call. Left out is what has no meaning because of
+/// another reason.
 fn reasons(case: &Case, oracle: &mut Oracle) -> Vec<u32> {
-    let table = |order: &[u32]| -> Vec<u32> {
-        let holding = order.iter().filter(|&&reason| holds(case, reason));
-        holding.copied().collect()
-    };
-    match case.call {
-        Call::Encipher | Call::Decipher => table(&[1, 2, 3, 4]),
-        Call::PrepareEnciphering | Call::PrepareDeciphering => table(&[1, 2, 4]),
-        Call::Run => table(&[5, 3, 4]),
-        Call::Issue => table(&[1, 2, 3, 4, 6, 7, 20]),
-        Call::Check => check_reasons(table(&[1, 2, 3, 7]), case, oracle),
-        Call::Enter => table(&[3, 6, 21, 22]),
-        Call::Withdraw => table(&[3, 6, 20]),
-        Call::Stage | Call::Subkey => table(&[1, 5, 4]),
-    }
+    let opened = deciphers(case).then(|| opened(case, oracle));
+    let order = case.call.reasons().iter().copied();
+    let holding = order.filter(|&reason| match case.call {
+        Call::Check if SEEN_IN_A_GRANT.contains(&reason) => opened
+            .as_ref()
+            .map_or(false, |grant| holds_of_grant(case, grant.as_ref(), reason)),
+        _ => holds(case, reason),
+    });
+    holding.collect()
+}
+
+/// Whether the call of a case has something to decipher, and what it takes to do so.
+fn deciphers(case: &Case) -> bool {
+    case.call == Call::Check && ![1, 2, 3].iter().any(|&reason| holds(case, reason))
 }
 
 /// Whether a reason holds that can be seen without deciphering.
@@ -135,29 +138,21 @@ fn own_count(case: &Case) -> Option<u16> {
     present.then(|| count(&case.roll, case.contractor))
 }
 
-/// The reasons of a check, given those that are seen without deciphering.
-fn check_reasons(mut reasons: Vec<u32>, case: &Case, oracle: &mut Oracle) -> Vec<u32> {
-    if reasons.iter().any(|reason| [1, 2, 3].contains(reason)) {
-        return reasons;
-    }
-    match opened(case, oracle) {
-        Some(grant) => reasons.extend(grant_reasons(case, &grant)),
-        None => reasons.push(8),
-    }
-    reasons
-}
-
-/// The reasons of a check that are seen in the deciphered grant.
-fn grant_reasons(case: &Case, grant: &Grant) -> Vec<u32> {
+/// Whether a reason of a check holds that is seen in what was deciphered, which is a grant or not.
+fn holds_of_grant(case: &Case, grant: Option<&Grant>, reason: u32) -> bool {
+    let grant = match grant {
+        Some(grant) => grant,
+        None => return reason == 8,
+    };
     let count = count(&case.roll, u32::from(grant.contractor));
-    let reasons = [
-        (9, grant.block != case.size_block),
-        (10, u32::from(grant.right) != case.right),
-        (20, !in_standing(count)),
-        (23, grant.count != count),
-    ];
-    let holding = reasons.iter().filter(|pair| pair.1);
-    holding.map(|pair| pair.0).collect()
+    match reason {
+        8 => false,
+        9 => grant.block != case.size_block,
+        10 => u32::from(grant.right) != case.right,
+        20 => !in_standing(count),
+        23 => grant.count != count,
+        other => panic!("reason {other} is not seen in a grant"),
+    }
 }
 
 /// The grant of a case deciphered, if it is one.

@@ -16,6 +16,7 @@ pub mod family;
 pub mod lend;
 pub mod opinion;
 pub mod oracle;
+pub mod order;
 pub mod random;
 pub mod rolls;
 pub mod spoil;

@@ -30,9 +30,9 @@ impl Tally {
             OPENS.. => 0,
             answer => answer,
         };
-        *self.answers.entry((place(call), answer)).or_default() += 1;
+        *self.answers.entry((call.place(), answer)).or_default() += 1;
         for (first, other) in pairs_of(&expected.reasons) {
-            *self.pairs.entry((place(call), first, other)).or_default() += 1;
+            *self.pairs.entry((call.place(), first, other)).or_default() += 1;
         }
     }
 
@@ -49,12 +49,12 @@ impl Tally {
 
     /// The cases with a call and an answer.
     pub fn answered(&self, call: Call, answer: u32) -> u64 {
-        *self.answers.get(&(place(call), answer)).unwrap_or(&0)
+        *self.answers.get(&(call.place(), answer)).unwrap_or(&0)
     }
 
     /// The cases with a call in which one reason is given and another one holds too.
     pub fn together(&self, call: Call, first: u32, other: u32) -> u64 {
-        let key = (place(call), first, other);
+        let key = (call.place(), first, other);
         *self.pairs.get(&key).unwrap_or(&0)
     }
 
@@ -80,7 +80,7 @@ impl Tally {
                     missing.push(format!("{} with answer {answer}", call.name()));
                 }
             }
-            for &(first, other) in call.pairs() {
+            for (first, other) in call.pairs() {
                 if self.together(call, first, other) == 0 {
                     let name = call.name();
                     missing.push(format!("{name} with reasons {first} and {other} together"));
@@ -102,8 +102,8 @@ impl Tally {
     /// How many of the pairs of reasons occurred that can hold together, and how many there are.
     fn pairs_seen(&self) -> (usize, usize) {
         let all = Call::ALL.iter().flat_map(|&call| {
-            let pairs = call.pairs().iter();
-            pairs.map(move |&(first, other)| self.together(call, first, other))
+            let pairs = call.pairs().into_iter();
+            pairs.map(move |(first, other)| self.together(call, first, other))
         });
         let all: Vec<u64> = all.collect();
         (all.iter().filter(|&&cases| cases > 0).count(), all.len())
@@ -145,9 +145,4 @@ impl fmt::Display for Tally {
 fn pairs_of(reasons: &[u32]) -> impl Iterator<Item = (u32, u32)> + '_ {
     let others = reasons.iter().skip(1);
     others.map(|&other| (reasons[0], other))
-}
-
-fn place(call: Call) -> usize {
-    let found = Call::ALL.iter().position(|&other| other == call);
-    found.expect("every call is among all calls")
 }

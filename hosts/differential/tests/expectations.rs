@@ -5,6 +5,7 @@ use gordzila_differential::case::Case;
 use gordzila_differential::expect::{expected, Effect};
 use gordzila_differential::opinion::second;
 use gordzila_differential::oracle::Oracle;
+use gordzila_differential::order::read;
 use gordzila_differential::rolls::set_count;
 
 /// Bytes from hex.
@@ -69,20 +70,96 @@ fn the_worked_examples_of_the_cipher() {
     }
 }
 
+/// A case of a call in which no reason holds.
+fn right(call: Call) -> Case {
+    let mut case = match call {
+        Call::Issue | Call::Check | Call::Withdraw => roll_case(call, 7, 1),
+        Call::Enter => roll_case(call, 7, 0),
+        _ => block_case(call, 12, 10),
+    };
+    match call {
+        Call::PrepareEnciphering | Call::PrepareDeciphering => case.out = 132,
+        Call::Stage => case.out = 24,
+        Call::Run => case.list = vec![1; 132],
+        Call::Check => case.block = effect(&right(Call::Issue)).written,
+        _ => {}
+    }
+    case
+}
+
+/// Makes a reason hold of a right case, and with it as few others as can be.
+fn spoil(case: &mut Case, reason: u32) {
+    match reason {
+        1 => case.key.push(0),
+        2 => case.rounds = 99,
+        3 if case.roll.is_empty() => case.block.push(0),
+        3 => case.roll.push(0),
+        4 => case.out = 0,
+        5 if case.call == Call::Run => case.list.push(0),
+        5 => case.stage = 99,
+        6 => case.contractor = 201,
+        7 => case.right = 3,
+        8 => case.block[0] ^= 1,
+        9 => case.size_block += 1,
+        10 => case.right = 1,
+        20 => set_count(&mut case.roll, 7, 2),
+        21 => set_count(&mut case.roll, 7, 1),
+        22 => set_count(&mut case.roll, 7, 65_534),
+        23 => set_count(&mut case.roll, 7, 3),
+        other => panic!("{other} is no reason"),
+    }
+}
+
 #[test]
-fn the_first_reason_of_a_block_is_given() {
-    let mut case = block_case(Call::Encipher, 13, 99);
-    case.block.clear();
-    case.out = 11;
-    assert_eq!(answer(&case), 1);
-    case.key.pop();
-    assert_eq!(answer(&case), 2);
-    case.rounds = 11;
-    assert_eq!(answer(&case), 3);
-    case.block = vec![0; 12];
-    assert_eq!(answer(&case), 4);
-    case.out = 12;
-    assert_eq!(answer(&case), 0);
+fn a_right_case_is_done() {
+    for call in Call::ALL {
+        let answer = answer(&right(call));
+        assert_eq!(answer, if call == Call::Check { 2007 } else { 0 });
+    }
+}
+
+#[test]
+fn each_reason_can_hold() {
+    for call in Call::ALL {
+        for &reason in call.reasons() {
+            let mut case = right(call);
+            spoil(&mut case, reason);
+            let found = expected(&case, &mut Oracle::new()).reasons;
+            assert!(found.contains(&reason), "{case}: {reason}");
+            assert_eq!(answer(&case), found[0], "{case}");
+        }
+    }
+}
+
+#[test]
+fn of_two_reasons_the_one_that_comes_first_is_given() {
+    for call in Call::ALL {
+        for (first, other) in call.pairs() {
+            let mut case = right(call);
+            spoil(&mut case, other);
+            spoil(&mut case, first);
+            let found = expected(&case, &mut Oracle::new()).reasons;
+            let both = found.contains(&first) && found.contains(&other);
+            assert!(both, "{case}: {first} and {other}");
+            assert_eq!(answer(&case), first, "{case}");
+        }
+    }
+}
+
+#[test]
+fn the_table_of_orders_is_read() {
+    let table = "# call | by value | in C\n\nlend | 2 1 | same\nturn | - | 10 3 2\n";
+    assert_eq!(read(table, "lend"), [2, 1]);
+    assert_eq!(read(table, "turn"), [10, 3, 2]);
+    for broken in [
+        "lend | 1 2",
+        "lend | 1 x | same",
+        "lend | 1 | -",
+        "send | 1 | 1",
+    ] {
+        let read = std::panic::catch_unwind(|| read(broken, "lend"));
+        assert!(read.is_err(), "{broken}");
+    }
 }
 
 #[test]
@@ -135,12 +212,10 @@ fn stages_and_subkeys() {
     case.call = Call::Subkey;
     assert_eq!(effect(&case).written, hex("d07e812a4bfb24fb546abddf"));
     case.stage = 12;
-    case.out = 11;
     assert_eq!(answer(&case), 5);
     case.stage = 11;
+    case.out = 11;
     assert_eq!(answer(&case), 4);
-    case.key.pop();
-    assert_eq!(answer(&case), 1);
 }
 
 #[test]
@@ -191,37 +266,4 @@ fn the_first_grant_of_the_independent_log() {
     assert_eq!(answer(&case), 20);
     set_count(&mut case.roll, 125, 3);
     assert_eq!(answer(&case), 23);
-    case.right = 1;
-    assert_eq!(answer(&case), 10);
-    case.size_block += 1;
-    assert_eq!(answer(&case), 9);
-    case.block[0] ^= 1;
-    assert_eq!(answer(&case), 8);
-    case.right = 3;
-    assert_eq!(answer(&case), 7);
-    case.roll.pop();
-    assert_eq!(answer(&case), 3);
-    case.rounds = 12;
-    assert_eq!(answer(&case), 2);
-    case.key.push(0);
-    assert_eq!(answer(&case), 1);
-}
-
-#[test]
-fn the_first_reason_of_an_issue_is_given() {
-    let mut case = roll_case(Call::Issue, 201, 0);
-    case.right = 257;
-    case.out = 0;
-    case.roll.push(0);
-    assert_eq!(answer(&case), 3);
-    case.roll.pop();
-    assert_eq!(answer(&case), 4);
-    case.out = 12;
-    assert_eq!(answer(&case), 6);
-    case.contractor = 7;
-    assert_eq!(answer(&case), 7);
-    case.right = 1;
-    assert_eq!(answer(&case), 20);
-    set_count(&mut case.roll, 7, 1);
-    assert_eq!(answer(&case), 0);
 }

@@ -11,7 +11,8 @@ use Rattle.blocks.proofs.put_bytes.Statement.{statement}
 use Rattle.blocks.proofs.put_bytes.Tie as tie
 
 abbrev Inv-loop : tie.InvT-loop
-Inv-loop out₀ at bytes i₀ out i = (length out ≡ length out₀) × ((i ≤ length bytes) × (out ≡ take at out₀ ++ (take i bytes ++ drop (at + i) out₀)))
+Inv-loop out₀ at bytes i₀ out i =
+    (length out ≡ length out₀) × ((i ≤ length bytes) × (out ≡ take at out₀ ++ (take i bytes ++ drop (at + i) out₀)))
 
 abbrev μ-loop : tie.MeasureT-loop
 μ-loop out₀ at bytes i₀ out i = length bytes - i
@@ -19,29 +20,14 @@ abbrev μ-loop : tie.MeasureT-loop
 loop-holds : tie.Need-loop-holds Inv-loop μ-loop
 loop-holds c = (refl, (omega arith, placed-none (c .args .at) (now (c .args .bytes)) (now (c .args .out))))
 
-shared-slice-read-out : tie.Need-shared-slice-read-out Inv-loop μ-loop
-shared-slice-read-out c = search needs
-
-add-out : tie.Need-add-out Inv-loop μ-loop
-add-out c = search needs
-
-slice-write-out : tie.Need-slice-write-out Inv-loop μ-loop
-slice-write-out c = search needs
-
-add-i : tie.Need-add-i Inv-loop μ-loop
-add-i c = search needs
-
-loop-less : tie.Need-loop-less Inv-loop μ-loop
-loop-less c = search needs
-
 loop-again : tie.Need-loop-again Inv-loop μ-loop
 loop-again c =
-    let a = c .before .before .before .args in
-    let l = c .before .before .loop in
-    (search needs, (search needs, placed-next (a .at) (l .i) (now (a .bytes)) (now (a .out)) (c .before .loop-test .taken) (c .before .before .before .pre) (l .out) (l .inv .1 .1)))
-
-same-length : tie.Need-same-length Inv-loop μ-loop
-same-length c = search needs
+    let t = c .before in
+    let l = t .before .loop in
+    let s = t .before .before in
+    let a = s .args in
+    let put = placed-next (a .at) (l .i) (now (a .bytes)) (now (a .out)) (t .loop-test .taken) (s .pre) (l .out) (l .inv .1 .1) in
+    (search needs, (search needs, put))
 
 returns : tie.Need-returns Inv-loop μ-loop
 returns c =
@@ -52,16 +38,5 @@ returns c =
 
 pub put-bytes-spec : {M : Type 1} → statement M
 put-bytes-spec =
-    tie.close
-    (tie.spec
-    Inv-loop
-    μ-loop
-    loop-holds
-    shared-slice-read-out
-    add-out
-    slice-write-out
-    add-i
-    loop-less
-    loop-again
-    same-length
-    returns)
+    tie.close (tie.spec Inv-loop μ-loop loop-holds (λ c. search needs) (λ c. search needs) (λ c. search needs)
+    (λ c. search needs) (λ c. search needs) loop-again (λ c. search needs) returns)

@@ -4,126 +4,69 @@ use Prim.Native.Nat.{ℕ, _+_, _-_, _*_, _≤_}
 use native.Mathlib.Omega.{arith}
 use denote.Ref.{now}
 use lib.ListN.{length}
-use borrow.Rule.Slice.PartMut.{same-len-mid}
 use Rattle.blocks.specs.Blocks.{bytesOf}
-use Rattle.schedule.specs.Columns.{padded}
-use Rattle.sizes.specs.Sizes.{sizeOf}
 use Rattle.schedule.specs.Stages.{stage}
 use Rattle.sizes.proofs.Keys.{a-key}
-use Rattle.schedule.proofs.Keys.{held-length, advanced}
 use Rattle.lists.proofs.Keys.{selected}
-use Rattle.lists.proofs.Filled.{front, front-first, front-next, front-whole, part-written}
+use Rattle.lists.proofs.Filled.{front, front-first, front-next, front-whole}
+use Rattle.lists.proofs.Filling.{Filling, stage-asks, goes-on}
 use borrow.Author.Needs.{needs}
 use Rattle.lists.proofs.fill.Statement.{statement}
 use Rattle.lists.proofs.fill.Tie as tie
 
 abbrev Inv-loop : tie.InvT-loop
-Inv-loop key rounds out₀ t k₀ s₀ out k s =
-    ((s ≤ rounds) × (length out ≡ length out₀)) × ((k ≡ padded (stage (sizeOf (length key)) key s)) × (out ≡ front key s out₀))
+Inv-loop key rounds out₀ t k₀ s₀ out k s = Filling key rounds (front key) out₀ out k s
 
 abbrev μ-loop : tie.MeasureT-loop
 μ-loop key rounds out₀ t k₀ s₀ out k s = rounds - s
 
+abbrev start : tie.After-write-state Inv-loop μ-loop → tie.Start Inv-loop μ-loop
+start w = let k = w .before .before .before .before in k .before .before .before
+
 stage-of-key-requires : tie.Need-stage-of-key-requires Inv-loop μ-loop
 stage-of-key-requires c κs = a-key _ (c .before .before .pre .key) .most
-
-subkey-requires : tie.Need-subkey-requires Inv-loop μ-loop
-subkey-requires c κs = search needs
-
-write-state-requires : tie.Need-write-state-requires Inv-loop μ-loop
-write-state-requires c κs = search needs
 
 loop-holds : tie.Need-loop-holds Inv-loop μ-loop
 unfolding stage
 loop-holds c =
-    let key = now (c .before .before .before .before .before .before .before .before .before .args .key) in
-    let out = now (c .before .before .before .before .before .before .before .before .before .args .out) in
-    let h = c .before .before .before .before .before .before .before .before .before .pre .key in
-    let k = c .before .before .before .before .before .before .stage-of-key in (
-      (omega arith, refl),
-      (
-        k .ensures,
-        front-first key out _ (c .before .before .before .subkey .result) (selected key h 0 (k .result) _ (k .ensures) (c .before .before .before .subkey .ensures)) (c .before .before .write-state .ensures),
-      ),
-    )
-
-add-s : tie.Need-add-s Inv-loop μ-loop
-add-s c = search needs
+    let w = c .before .before in
+    let s = start w in
+    let k = w .before .before .before .before .stage-of-key in
+    let e = selected _ (s .pre .key) 0 (k .result) _ (k .ensures) (w .before .subkey .ensures) in
+    let first = front-first _ (now (s .args .out)) _ (w .before .subkey .result) e (w .write-state .ensures) in
+    record { most = omega arith; same = refl; held = k .ensures; is = first }
 
 next-stage-requires : tie.Need-next-stage-requires Inv-loop μ-loop
 next-stage-requires c κs =
-    let k = a-key (length (now (c .before .before .before .before .before .before .before .before .before .before .before .before .args .key))) (c .before .before .before .before .before .before .before .before .before .before .before .before .pre .key) in
-    let l = c .before .before .loop in
-    (k .sized, ((omega arith, omega (arith, k .is, c .before .before .before .before .before .before .before .before .before .before .before .before .pre .most)), held-length (now (c .before .before .before .before .before .before .before .before .before .before .before .before .args .key)) (c .before .before .before .before .before .before .before .before .before .before .before .before .pre .key) (l .s) (l .k) (l .inv .1 .0)))
+    let l = c .before .before in stage-asks (start (l .before .before .before) .pre) (l .loop .inv) (c .before .loop-test .taken)
 
-mul-at : tie.Need-mul-at Inv-loop μ-loop
-mul-at c = search needs
-
-sub-write-state : tie.Need-sub-write-state Inv-loop μ-loop
-sub-write-state c = search needs
-
-part-write-state-start : tie.Need-part-write-state-start Inv-loop μ-loop
-part-write-state-start c = search needs
-
-part-write-state-end : tie.Need-part-write-state-end Inv-loop μ-loop
-part-write-state-end c = search needs
-
-subkey-requires-2 : tie.Need-subkey-requires-2 Inv-loop μ-loop
-subkey-requires-2 c κs = search needs
-
-write-state-requires-2 : tie.Need-write-state-requires-2 Inv-loop μ-loop
-write-state-requires-2 c κs = search needs
-
-loop-less : tie.Need-loop-less Inv-loop μ-loop
-loop-less c = search needs
+-- the next subkey's place is in the list
+room : (c : tie.In-loop Inv-loop μ-loop) → 12 * (c .before .loop .s + 1) ≤ length (c .before .loop .out)
+room c = omega arith
 
 loop-again : tie.Need-loop-again Inv-loop μ-loop
 loop-again c =
-    let key = now (c .before .before .before .before .before .before .before .before .before .before .before .before .before .before .before .before .before .before .before .args .key) in
-    let h = c .before .before .before .before .before .before .before .before .before .before .before .before .before .before .before .before .before .before .before .pre .key in
-    let s = c .before .before .before .before .before .before .before .before .before .loop .s in
-    let out = c .before .before .before .before .before .before .before .before .before .loop .out in
-    let inv = c .before .before .before .before .before .before .before .before .before .loop .inv in
-    let next = c .before .before .before .before .before .before .next-stage in
-    let ek = advanced key h s (c .before .before .before .before .before .before .before .before .before .loop .k) (next .last .1 .1 .0) (inv .1 .0) (next .ensures) in (
-      (omega arith, same-len-mid (12 * (s + 1)) (length out - 12 * (s + 1)) out (c .before .before .write-state2 .last .0) (c .before .before .write-state2 .kept .0) ∙ inv .0 .1),
-      (
-        ek,
-        part-written (12 * (s + 1)) out (bytesOf (c .before .before .before .subkey2 .result)) _ (omega arith) (c .before .before .write-state2 .ensures)
-            ∙ front-next key _ out s _ (selected key h (s + 1) (next .last .1 .1 .0) _ ek (c .before .before .before .subkey2 .ensures)) (inv .1 .1),
-      ),
-    )
-
-same-length : tie.Need-same-length Inv-loop μ-loop
-same-length c = search needs
+    let w = c .before .before in
+    let n = w .before .before .before .before in
+    let t = n .before .before in
+    let l = t .before in
+    let b = w .before .subkey2 in
+    goes-on (start (l .before .before .before) .pre) (l .loop .inv) (t .loop-test .taken) _ _ (n .next-stage .ensures) (b .ensures) _ (room t)
+    (bytesOf (b .result)) _ (w .write-state2 .kept .0) (w .write-state2 .ensures)
+    (λ e. front-next _ _ (l .loop .out) (l .loop .s) (b .result) e (l .loop .inv .is))
 
 returns : tie.Need-returns Inv-loop μ-loop
 unfolding front
 returns c =
-    let a = c .before .before .before .before .before .before .before .before .before .before .before .args in
-    let key = now (a .key) in
-    let e : c .before .loop .s ≡ a .rounds = omega arith in
-    c .before .loop .inv .1 .1 ∙ ap (λ (s : ℕ). front key s (c .before .before .before .before .write-state .last .0)) e ∙ front-whole key (now (a .out)) _ (c .before .before .before .before .before .subkey .result) (a .rounds) (c .before .before .before .before .write-state .ensures)
+    let l = c .before in
+    let w = l .before .before .before in
+    let a = start w .args in
+    let e : l .loop .s ≡ a .rounds = omega arith in
+    l .loop .inv .is ∙ ap (λ (s : ℕ). front (now (a .key)) s (w .write-state .last .0)) e
+    ∙ front-whole (now (a .key)) (now (a .out)) _ (w .before .subkey .result) (a .rounds) (w .write-state .ensures)
 
 pub fill-spec : {M : Type 1} → statement M
 fill-spec =
-    tie.close
-    (tie.spec
-    Inv-loop
-    μ-loop
-    stage-of-key-requires
-    subkey-requires
-    write-state-requires
-    loop-holds
-    add-s
-    next-stage-requires
-    mul-at
-    sub-write-state
-    part-write-state-start
-    part-write-state-end
-    subkey-requires-2
-    write-state-requires-2
-    loop-less
-    loop-again
-    same-length
-    returns)
+    tie.close (tie.spec Inv-loop μ-loop stage-of-key-requires (λ c κs. search needs) (λ c κs. search needs) loop-holds
+    (λ c. search needs) next-stage-requires (λ c. search needs) (λ c. search needs) (λ c. search needs) (λ c. search needs)
+    (λ c κs. search needs) (λ c κs. search needs) (λ c. search needs) loop-again (λ c. search needs) returns)

@@ -13,165 +13,88 @@ use Rattle.layers.specs.Layers.{diffused}
 use Rattle.rounds.specs.Rounds.{turned}
 use Rattle.blocks.specs.Blocks.{bytesOf, listBytes}
 use Rattle.lists.specs.Lists.{subkeys}
-use Rattle.schedule.specs.Columns.{padded}
-use Rattle.sizes.specs.Sizes.{sizeOf}
 use Rattle.schedule.specs.Stages.{stage}
 use Rattle.sizes.proofs.Keys.{a-key}
-use Rattle.schedule.proofs.Keys.{held-length, advanced}
 use Rattle.lists.proofs.Keys.{selected}
-use Rattle.lists.proofs.Filled.{part-written}
+use Rattle.lists.proofs.Filled.{overlaid, part-written}
 use Rattle.lists.proofs.Turned.{back, first-drop, back-first, back-next, back-whole}
+use Rattle.lists.proofs.Filling.{Filling, stage-asks, goes-on}
 use borrow.Author.Needs.{needs}
 use Rattle.lists.proofs.fill_turned.Statement.{statement}
 use Rattle.lists.proofs.fill_turned.Tie as tie
 
 abbrev Inv-loop : tie.InvT-loop
-Inv-loop key rounds out₀ t k₀ last s₀ out k s =
-    ((s ≤ rounds) × (length out ≡ length out₀)) × ((k ≡ padded (stage (sizeOf (length key)) key s)) × (out ≡ back key rounds s out₀))
+Inv-loop key rounds out₀ t k₀ last s₀ out k s = Filling key rounds (back key rounds) out₀ out k s
 
 abbrev μ-loop : tie.MeasureT-loop
 μ-loop key rounds out₀ t k₀ last s₀ out k s = rounds - s
 
+abbrev start : tie.After-write-state Inv-loop μ-loop → tie.Start Inv-loop μ-loop
+start w = let k = w .before .before .before .before in k .before .before .before
+
 stage-of-key-requires : tie.Need-stage-of-key-requires Inv-loop μ-loop
 stage-of-key-requires c κs = a-key _ (c .before .before .pre .key) .most
 
-mul-last : tie.Need-mul-last Inv-loop μ-loop
-mul-last c = search needs
-
-sub-write-state : tie.Need-sub-write-state Inv-loop μ-loop
-sub-write-state c = search needs
-
-part-write-state-start : tie.Need-part-write-state-start Inv-loop μ-loop
-part-write-state-start c = search needs
-
-part-write-state-end : tie.Need-part-write-state-end Inv-loop μ-loop
-part-write-state-end c = search needs
-
-subkey-requires : tie.Need-subkey-requires Inv-loop μ-loop
-subkey-requires c κs = search needs
-
-write-state-requires : tie.Need-write-state-requires Inv-loop μ-loop
-write-state-requires c κs = search needs
+-- the first subkey stands in the last place
+written : (w : tie.After-write-state Inv-loop μ-loop) → let a = start w .args in let out = now (a .out) in
+    putMid (12 * a .rounds) (length out - 12 * a .rounds) out (w .write-state .last .0)
+    ≡ overlaid (12 * a .rounds) (bytesOf (w .before .subkey .result)) out
+written w = part-written (12 * start w .args .rounds) _ (bytesOf (w .before .subkey .result)) _ (omega arith) (w .write-state .ensures)
 
 loop-holds : tie.Need-loop-holds Inv-loop μ-loop
 unfolding stage
 loop-holds c =
-    let key = now (c .before .before .before .before .before .before .before .before .before .args .key) in
-    let R = c .before .before .before .before .before .before .before .before .before .args .rounds in
-    let out = now (c .before .before .before .before .before .before .before .before .before .args .out) in
-    let room = c .before .before .before .before .before .before .before .before .before .pre .fits in
-    let k = c .before .before .before .before .before .before .stage-of-key in
-    let sub = c .before .before .before .subkey in
-    let p = part-written (12 * R) out (bytesOf (sub .result)) (c .before .before .write-state .last .0) (omega arith) (c .before .before .write-state .ensures) in (
-      (omega arith, refl),
-      (
-        k .ensures,
-        p ∙ back-first key R out (sub .result) room (selected key (c .before .before .before .before .before .before .before .before .before .pre .key) 0 (k .result) _ (k .ensures) (sub .ensures)) ∙ ap (back key R 0) (sym p),
-      ),
-    )
-
-add-s : tie.Need-add-s Inv-loop μ-loop
-add-s c = search needs
+    let w = c .before .before in
+    let s = start w in
+    let k = w .before .before .before .before .stage-of-key in
+    let key = now (s .args .key) in
+    let e = selected key (s .pre .key) 0 (k .result) _ (k .ensures) (w .before .subkey .ensures) in
+    let first = back-first key (s .args .rounds) (now (s .args .out)) (w .before .subkey .result) (s .pre .fits) e in
+    record { most = omega arith; same = refl; held = k .ensures; is = written w ∙ first ∙ ap (back key (s .args .rounds) 0) (sym (written w)) }
 
 next-stage-requires : tie.Need-next-stage-requires Inv-loop μ-loop
 next-stage-requires c κs =
-    let k = a-key (length (now (c .before .before .before .before .before .before .before .before .before .before .before .before .args .key))) (c .before .before .before .before .before .before .before .before .before .before .before .before .pre .key) in
-    let l = c .before .before .loop in
-    (k .sized, ((omega arith, omega (arith, k .is, c .before .before .before .before .before .before .before .before .before .before .before .before .pre .most)), held-length (now (c .before .before .before .before .before .before .before .before .before .before .before .before .args .key)) (c .before .before .before .before .before .before .before .before .before .before .before .before .pre .key) (l .s) (l .k) (l .inv .1 .0)))
+    let l = c .before .before in stage-asks (start (l .before .before .before) .pre) (l .loop .inv) (c .before .loop-test .taken)
 
-sub-at : tie.Need-sub-at Inv-loop μ-loop
-sub-at c = search needs
-
-mul-at : tie.Need-mul-at Inv-loop μ-loop
-mul-at c = search needs
-
-subkey-requires-2 : tie.Need-subkey-requires-2 Inv-loop μ-loop
-subkey-requires-2 c κs = search needs
-
-turn-subkey-requires : tie.Need-turn-subkey-requires Inv-loop μ-loop
-turn-subkey-requires c κs = search needs
-
-sub-write-state-2 : tie.Need-sub-write-state-2 Inv-loop μ-loop
-sub-write-state-2 c = search needs
-
-part-write-state-start-2 : tie.Need-part-write-state-start-2 Inv-loop μ-loop
-part-write-state-start-2 c = search needs
-
-part-write-state-end-2 : tie.Need-part-write-state-end-2 Inv-loop μ-loop
-part-write-state-end-2 c = search needs
-
-write-state-requires-2 : tie.Need-write-state-requires-2 Inv-loop μ-loop
-write-state-requires-2 c κs = search needs
-
-loop-less : tie.Need-loop-less Inv-loop μ-loop
-loop-less c = search needs
+-- the next subkey's place is in the list
+room : (c : tie.In-loop Inv-loop μ-loop) → let l = c .before in
+    12 * (start (l .before .before .before) .args .rounds - (l .loop .s + 1)) ≤ length (l .loop .out)
+room c = omega arith
 
 loop-again : tie.Need-loop-again Inv-loop μ-loop
 loop-again c =
-    let key = now (c .before .before .before .before .before .before .before .before .before .before .before .before .before .before .before .before .before .before .before .before .args .key) in
-    let R = c .before .before .before .before .before .before .before .before .before .before .before .before .before .before .before .before .before .before .before .before .args .rounds in
-    let out₁ = now (c .before .before .before .before .before .before .before .before .before .before .before .before .before .before .before .before .before .before .before .before .args .out) in
-    let room = c .before .before .before .before .before .before .before .before .before .before .before .before .before .before .before .before .before .before .before .before .pre .fits in
-    let h = c .before .before .before .before .before .before .before .before .before .before .before .before .before .before .before .before .before .before .before .before .pre .key in
-    let s = c .before .before .before .before .before .before .before .before .before .before .loop .s in
-    let out = c .before .before .before .before .before .before .before .before .before .before .loop .out in
-    let inv = c .before .before .before .before .before .before .before .before .before .before .loop .inv in
-    let next = c .before .before .before .before .before .before .before .next-stage in
-    let ek = advanced key h s (c .before .before .before .before .before .before .before .before .before .before .loop .k) (next .last .1 .1 .0) (inv .1 .0) (next .ensures) in
-    let sub = c .before .before .before .before .turn-subkey in
-    let es = selected key h (s + 1) (next .last .1 .1 .0) _ ek (c .before .before .before .before .before .subkey2 .ensures) in
-    let at = 12 * (R - (s + 1)) in
-    let l₀ = same-len-mid (12 * R) (length out₁ - 12 * R) out₁ (c .before .before .before .before .before .before .before .before .before .before .before .before .before .write-state .last .0) (c .before .before .before .before .before .before .before .before .before .before .before .before .before .write-state .kept .0) in (
-      (omega arith, same-len-mid at (length out - at) out (c .before .before .write-state2 .last .0) (c .before .before .write-state2 .kept .0) ∙ inv .0 .1),
-      (
-        ek,
-        part-written at out (bytesOf (sub .result)) _ (omega arith) (c .before .before .write-state2 .ensures)
-            ∙ back-next key R s _ out (sub .result) (omega arith) (omega (arith, l₀)) (sub .ensures ∙ ap (λ (k : State). cond (ltb (s + 1) R) (diffused k) k) es) (inv .1 .1),
-      ),
-    )
-
-same-length : tie.Need-same-length Inv-loop μ-loop
-same-length c = search needs
+    let w = c .before .before in
+    let sub = w .before .before in
+    let n = sub .before .before .before in
+    let t = n .before .before in
+    let l = t .before in
+    let f = l .before .before .before in
+    let R = start f .args .rounds in
+    let out = now (start f .args .out) in
+    let b = sub .turn-subkey in
+    let l₀ = same-len-mid (12 * R) (length out - 12 * R) out (f .write-state .last .0) (f .write-state .kept .0) in
+    goes-on (start f .pre) (l .loop .inv) (t .loop-test .taken) _ _ (n .next-stage .ensures) (sub .before .subkey2 .ensures) _ (room t)
+    (bytesOf (b .result)) _ (w .write-state2 .kept .0) (w .write-state2 .ensures)
+    (λ e. back-next _ R (l .loop .s) _ (l .loop .out) (b .result) (t .loop-test .taken) (omega (arith, l₀, start f .pre .fits))
+    (b .ensures ∙ ap (λ (k : State). cond (ltb (l .loop .s + 1) R) (diffused k) k) e) (l .loop .inv .is))
 
 returns : tie.Need-returns Inv-loop μ-loop
 returns c =
-    let a = c .before .before .before .before .before .before .before .before .before .before .before .args in
+    let l = c .before in
+    let w = l .before .before .before in
+    let a = start w .args in
     let key = now (a .key) in
     let R = a .rounds in
-    let out = now (a .out) in
-    let e : c .before .loop .s ≡ R = omega arith in
-    let sub = c .before .before .before .before .before .subkey in
-    let out₀ = putMid (12 * R) (length out - 12 * R) out (c .before .before .before .before .write-state .last .0) in
-    let p = part-written (12 * R) out (bytesOf (sub .result)) (c .before .before .before .before .write-state .last .0) (omega arith) (c .before .before .before .before .write-state .ensures) in
-    c .before .loop .inv .1 .1 ∙ ap (λ (s : ℕ). back key R s out₀) e ∙ back-whole key R out₀
-    ∙ ap (λ (x : List ℕ). listBytes (turned (subkeys key R)) ++ drop (12 * (R + 1)) x) p
-    ∙ ap (λ (x : List ℕ). listBytes (turned (subkeys key R)) ++ x) (first-drop key R out (sub .result) (c .before .before .before .before .before .before .before .before .before .before .before .pre .fits))
+    let e : l .loop .s ≡ R = omega arith in
+    let out₀ = putMid (12 * R) (length (now (a .out)) - 12 * R) (now (a .out)) (w .write-state .last .0) in
+    l .loop .inv .is ∙ ap (λ (s : ℕ). back key R s out₀) e ∙ back-whole key R out₀
+    ∙ ap (λ (x : List ℕ). listBytes (turned (subkeys key R)) ++ x)
+    (ap (drop (12 * (R + 1))) (written w) ∙ first-drop key R (now (a .out)) (w .before .subkey .result) (start w .pre .fits))
 
 pub fill-turned-spec : {M : Type 1} → statement M
 fill-turned-spec =
-    tie.close
-    (tie.spec
-    Inv-loop
-    μ-loop
-    stage-of-key-requires
-    mul-last
-    sub-write-state
-    part-write-state-start
-    part-write-state-end
-    subkey-requires
-    write-state-requires
-    loop-holds
-    add-s
-    next-stage-requires
-    sub-at
-    mul-at
-    subkey-requires-2
-    turn-subkey-requires
-    sub-write-state-2
-    part-write-state-start-2
-    part-write-state-end-2
-    write-state-requires-2
-    loop-less
-    loop-again
-    same-length
+    tie.close (tie.spec Inv-loop μ-loop stage-of-key-requires (λ c. search needs) (λ c. search needs) (λ c. search needs)
+    (λ c. search needs) (λ c κs. search needs) (λ c κs. search needs) loop-holds (λ c. search needs) next-stage-requires
+    (λ c. search needs) (λ c. search needs) (λ c κs. search needs) (λ c κs. search needs) (λ c. search needs)
+    (λ c. search needs) (λ c. search needs) (λ c κs. search needs) (λ c. search needs) loop-again (λ c. search needs)
     returns)

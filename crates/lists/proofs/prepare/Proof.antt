@@ -1,13 +1,15 @@
 -- `lists::prepare` meets its contract.
-use mathlib.Core.Path.{sym, ap, _∙_}
-use mathlib.Core.List.{[], _++_}
-use Prim.Native.Nat.{ℕ, _+_}
-use native.Mathlib.Omega.{arith}
+use mathlib.Core.Path.{_≡_, refl, sym, ap, _∙_}
+use mathlib.Core.List.{List, [], _∷_, _++_}
+use Prim.Native.Nat.{ℕ, _+_, _*_}
 use denote.Ref.{now}
-use lib.ListN.{drop}
-use borrow.Author.Tests.{not-true, not-false, le-leb, lt-leb}
-use Rattle.refusal.proofs.Tries.{first-passes, first-holds, none-given}
-use Rattle.refusal.proofs.Answers.{refuses, succeeds}
+use lib.Dec.{leb}
+use lib.ListN.{length, drop}
+use borrow.Author.Tests.{leb-true}
+use Rattle.refusal.specs.Reasons.{outcomeNumber}
+use Rattle.refusal.specs.Tries.{Try, _unless_, first, NoneHolds}
+use Rattle.refusal.proofs.Ladder.{then, all-passed, returns-refused, returns-done}
+use Rattle.settings.specs.Settings.{settingsTries}
 use Rattle.blocks.specs.Blocks.{listBytes}
 use Rattle.lists.specs.Lists.{listFor, prepareTries, prepared}
 use Rattle.lists.proofs.Lists.{fitting, length-prepared}
@@ -15,64 +17,41 @@ use borrow.Author.Needs.{needs}
 use Rattle.lists.proofs.prepare.Statement.{statement}
 use Rattle.lists.proofs.prepare.Tie as tie
 
-is-key-length-requires : tie.Need-is-key-length-requires
-is-key-length-requires c κs = search needs
+abbrev start : tie.After-is-refused → tie.Start
+start c = c .before .before .before .before .before
+
+abbrev tries : tie.Start → List Try
+tries s = prepareTries (now (s .args .key)) (s .args .rounds) (now (s .args .out))
+
+tried : (c : tie.After-is-refused) → outcomeNumber (c .before .unless .result) ≡ first (tries (start c))
+tried c =
+    let a = start c .args in
+    then _ _ (settingsTries (length (now (a .key))) (a .rounds)) ((4 unless leb (12 * (a .rounds + 1)) (length (now (a .out)))) ∷ []) refl
+    (c .before .before .try-settings .ensures) (c .before .unless .ensures)
 
 returns : tie.Need-returns
 returns c =
-    let a = c .before .before .before .before .args in
-    refuses (prepareTries (now (a .key)) (a .rounds) (now (a .out))) 1 (prepared (a .direction) (now (a .key)) (a .rounds)) (now (a .out)) (omega arith)
-    (first-holds _ _ (sym (c .before .is-key-length .ensures) ∙ not-true _ (c .if1 .taken)))
-
-is-round-count-requires : tie.Need-is-round-count-requires
-is-round-count-requires c κs = sym (c .before .is-key-length .ensures) ∙ not-false _ (c .if1 .left)
-
-returns-2 : tie.Need-returns-2
-returns-2 c =
-    let a = c .before .before .before .before .before .before .args in
-    refuses (prepareTries (now (a .key)) (a .rounds) (now (a .out))) 2 (prepared (a .direction) (now (a .key)) (a .rounds)) (now (a .out)) (omega arith)
-    (first-passes _ _ (sym (c .before .before .before .is-key-length .ensures) ∙ not-false _ (c .before .before .if1 .left)) ∙ first-holds _ _ (sym (c .before .is-round-count .ensures) ∙ not-true _ (c .if2 .taken)))
-
-add-if3 : tie.Need-add-if3
-add-if3 c = search needs
-
-mul-if3 : tie.Need-mul-if3
-mul-if3 c = search needs
-
-returns-3 : tie.Need-returns-3
-returns-3 c =
-    let a = c .before .before .before .before .before .before .before .args in
-    refuses (prepareTries (now (a .key)) (a .rounds) (now (a .out))) 4 (prepared (a .direction) (now (a .key)) (a .rounds)) (now (a .out)) (omega arith)
-    (first-passes _ _ (sym (c .before .before .before .before .is-key-length .ensures) ∙ not-false _ (c .before .before .before .if1 .left)) ∙ first-passes _ _ (sym (c .before .before .is-round-count .ensures) ∙ not-false _ (c .before .if2 .left)) ∙ first-holds _ _ (lt-leb _ _ (c .if3 .taken)))
+    let k = c .before in
+    let a = start k .args in
+    returns-refused _ (tries (start k)) (tried k) _ (k .is-refused .ensures) (prepared (a .direction) (now (a .key)) (a .rounds)) (now (a .out)) (c .if1 .taken)
 
 fill-for-requires : tie.Need-fill-for-requires
-fill-for-requires c κs = fitting _ _ _ (sym (c .before .before .before .before .before .is-key-length .ensures) ∙ not-false _ (c .before .before .before .before .if1 .left)) (sym (c .before .before .before .is-round-count .ensures) ∙ not-false _ (c .before .before .if2 .left)) (c .before .if3 .left)
+fill-for-requires c κs =
+    let k = c .before .before in
+    let p = all-passed _ (tries (start k)) (tried k) _ (k .is-refused .ensures) refl (c .before .if1 .left) in
+    fitting _ _ _ (p .0) (p .1 .0) (leb-true _ _ (p .1 .1 .0))
 
-same-length : tie.Need-same-length
-same-length c = search needs
-
-returns-4 : tie.Need-returns-4
+returns-2 : tie.Need-returns-2
 unfolding prepared
-returns-4 c =
-    let a = c .before .before .before .before .before .before .before .before .before .before .before .args in
-    let key = now (a .key) in
-    let out = now (a .out) in
-    let l = listBytes (listFor (a .direction) key (a .rounds)) in
-    let r = succeeds (prepareTries key (a .rounds) out) (prepared (a .direction) key (a .rounds)) out
-    (first-passes _ _ (sym (c .before .before .before .before .before .before .before .before .is-key-length .ensures) ∙ not-false _ (c .before .before .before .before .before .before .before .if1 .left)) ∙ first-passes _ _ (sym (c .before .before .before .before .before .before .is-round-count .ensures) ∙ not-false _ (c .before .before .before .before .before .if2 .left)) ∙ first-passes _ _ (le-leb _ _ (c .before .before .before .before .if3 .left)) ∙ none-given [] tt) in
-    (r .0, c .before .before .fill-for .ensures ∙ ap (λ (n : ℕ). l ++ drop n out) (sym (length-prepared (a .direction) key (a .rounds))) ∙ r .1)
+returns-2 c =
+    let f = c .before .before in
+    let k = f .before .before in
+    let a = start (k .before) .args in
+    let l = listBytes (listFor (a .direction) (now (a .key)) (a .rounds)) in
+    let r = returns-done _ (tries (start (k .before))) (tried (k .before)) _ (k .before .is-refused .ensures) l (now (a .out)) (k .if1 .left) in
+    (r .0, f .fill-for .ensures ∙ ap (λ (n : ℕ). l ++ drop n (now (a .out))) (sym (length-prepared (a .direction) (now (a .key)) (a .rounds))) ∙ r .1)
 
 pub prepare-spec : {M : Type 1} → statement M
 prepare-spec =
-    tie.close
-    (tie.spec
-    is-key-length-requires
-    returns
-    is-round-count-requires
-    returns-2
-    add-if3
-    mul-if3
-    returns-3
-    fill-for-requires
-    same-length
-    returns-4)
+    tie.close (tie.spec (λ c κs. search needs) (λ c. search needs) (λ c. search needs) (λ c κs. search needs)
+    (λ c κs. search needs) returns fill-for-requires (λ c. search needs) returns-2)

@@ -6,15 +6,6 @@ use borrow.Author.Needs.{needs}
 use Rattle.rounds.proofs.last_round.Statement.{statement}
 use Rattle.rounds.proofs.last_round.Tie as tie
 
-substitute-requires : tie.Need-substitute-requires
-substitute-requires c κs = search needs
-
-permute-requires : tie.Need-permute-requires
-permute-requires c κs = search needs
-
-add-key-requires : tie.Need-add-key-requires
-add-key-requires c κs = search needs
-
 returns : tie.Need-returns
 unfolding lastRound
 returns c =
@@ -23,4 +14,4 @@ returns c =
 
 pub last-round-spec : {M : Type 1} → statement M
 last-round-spec =
-    tie.close (tie.spec substitute-requires permute-requires add-key-requires returns)
+    tie.close (tie.spec (λ c κs. search needs) (λ c κs. search needs) (λ c κs. search needs) returns)

@@ -6,26 +6,15 @@ use borrow.Author.Needs.{needs}
 use Rattle.rounds.proofs.middle_round.Statement.{statement}
 use Rattle.rounds.proofs.middle_round.Tie as tie
 
-substitute-requires : tie.Need-substitute-requires
-substitute-requires c κs = search needs
-
-permute-requires : tie.Need-permute-requires
-permute-requires c κs = search needs
-
-diffuse-requires : tie.Need-diffuse-requires
-diffuse-requires c κs = search needs
-
-add-key-requires : tie.Need-add-key-requires
-add-key-requires c κs = search needs
-
 returns : tie.Need-returns
 unfolding round
 returns c =
     let k = c .before .before .before .before .args .k in
     c .add-key .ensures
-    ∙ ap (added k) (c .before .diffuse .ensures ∙ ap diffused (c .before .before .permute .ensures ∙ ap permuted (c .before .before .before .substitute .ensures)))
+    ∙ ap (added k) (c .before .diffuse .ensures ∙ ap diffused
+    (c .before .before .permute .ensures ∙ ap permuted (c .before .before .before .substitute .ensures)))
 
 pub middle-round-spec : {M : Type 1} → statement M
 middle-round-spec =
-    tie.close
-    (tie.spec substitute-requires permute-requires diffuse-requires add-key-requires returns)
+    tie.close (tie.spec (λ c κs. search needs) (λ c κs. search needs) (λ c κs. search needs) (λ c κs. search needs)
+    returns)

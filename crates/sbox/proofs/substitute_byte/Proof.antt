@@ -9,8 +9,5 @@ substitute-with-requires : tie.Need-substitute-with-requires
 unfolding tableP tableQ
 substitute-with-requires c κs = (refl, refl)
 
-returns : tie.Need-returns
-returns c = search needs
-
 pub substitute-byte-spec : {M : Type 1} → statement M
-substitute-byte-spec = tie.close (tie.spec substitute-with-requires returns)
+substitute-byte-spec = tie.close (tie.spec substitute-with-requires (λ c. search needs))

@@ -1,18 +1,13 @@
 -- `sizes::is_key_length` meets its contract.
-use mathlib.Core.Path.{sym, ap}
-use Rattle.sizes.specs.Sizes.{keyLength}
-use Rattle.sizes.proofs.Laws.{not-first}
+use mathlib.Core.Path.{ap, _∙_}
+use mathlib.Core.Bool.{Bool, _||_}
+use lib.Dec.{eqb}
+use borrow.Author.Needs.{needs}
 use Rattle.sizes.proofs.is_key_length.Statement.{statement}
 use Rattle.sizes.proofs.is_key_length.Tie as tie
 
 returns : tie.Need-returns
-returns c = sym (ap keyLength (c .if1 .taken))
-
-returns-2 : tie.Need-returns-2
-returns-2 c = sym (ap keyLength (c .if2 .taken))
-
-returns-3 : tie.Need-returns-3
-returns-3 c = not-first (c .before .before .args .n) (c .before .if1 .left) (c .if2 .left)
+returns c = c .either2 .ensures ∙ ap (λ (b : Bool). eqb (c .before .before .args .n) 12 || b) (c .before .either .ensures)
 
 pub is-key-length-spec : {M : Type 1} → statement M
-is-key-length-spec = tie.close (tie.spec returns returns-2 returns-3)
+is-key-length-spec = tie.close (tie.spec (λ c κs. search needs) (λ c κs. search needs) returns)

@@ -6,23 +6,15 @@ use borrow.Author.Needs.{needs}
 use Rattle.sizes.proofs.size_for.Statement.{statement}
 use Rattle.sizes.proofs.size_for.Tie as tie
 
-size-requires : tie.Need-size-requires
-size-requires c κs = search needs
-
 returns : tie.Need-returns
 returns c = c .size .ensures ∙ ap sizeFor (sym (c .before .if1 .taken))
 
-size-requires-2 : tie.Need-size-requires-2
-size-requires-2 c κs = search needs
-
 returns-2 : tie.Need-returns-2
 returns-2 c = c .size2 .ensures ∙ ap sizeFor (sym (c .before .if2 .taken))
-
-size-requires-3 : tie.Need-size-requires-3
-size-requires-3 c κs = search needs
 
 returns-3 : tie.Need-returns-3
 returns-3 c = let e : 4 ≡ c .before .before .before .args .t = omega arith in c .size3 .ensures ∙ ap sizeFor e
 
 pub size-for-spec : {M : Type 1} → statement M
-size-for-spec = tie.close (tie.spec size-requires returns size-requires-2 returns-2 size-requires-3 returns-3)
+size-for-spec =
+    tie.close (tie.spec (λ c κs. search needs) returns (λ c κs. search needs) returns-2 (λ c κs. search needs) returns-3)

@@ -7,8 +7,5 @@ use Rattle.sizes.proofs.size_of_key.Tie as tie
 size-for-requires : tie.Need-size-for-requires
 size-for-requires c κs = a-key (c .args .n) (c .pre) .sized
 
-returns : tie.Need-returns
-returns c = search needs
-
 pub size-of-key-spec : {M : Type 1} → statement M
-size-of-key-spec = tie.close (tie.spec size-for-requires returns)
+size-of-key-spec = tie.close (tie.spec size-for-requires (λ c. search needs))

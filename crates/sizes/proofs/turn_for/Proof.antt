@@ -5,11 +5,8 @@ use borrow.Author.Needs.{needs}
 use Rattle.sizes.proofs.turn_for.Statement.{statement}
 use Rattle.sizes.proofs.turn_for.Tie as tie
 
-size-for-requires : tie.Need-size-for-requires
-size-for-requires c κs = search needs
-
 returns : tie.Need-returns
 returns c = ap (λ (s : KeySize). s .turn) (c .size-for .ensures)
 
 pub turn-for-spec : {M : Type 1} → statement M
-turn-for-spec = tie.close (tie.spec size-for-requires returns)
+turn-for-spec = tie.close (tie.spec (λ c κs. search needs) returns)

@@ -6,20 +6,9 @@ use borrow.Author.Needs.{needs}
 use Rattle.grant.proofs.plain.contractor_in.Statement.{statement}
 use Rattle.grant.proofs.plain.contractor_in.Tie as tie
 
-element-copy-out-number-of : tie.Need-element-copy-out-number-of
-element-copy-out-number-of c = search needs
-
-element-copy-out-number-of-2 : tie.Need-element-copy-out-number-of-2
-element-copy-out-number-of-2 c = search needs
-
-number-of-requires : tie.Need-number-of-requires
-number-of-requires c κs = search needs
-
 returns : tie.Need-returns
 unfolding contractorIn
-returns c = c .number-of .ensures ∙ omega arith
+returns c = c .four-from .ensures ∙ omega arith
 
 pub contractor-in-spec : {M : Type 1} → statement M
-contractor-in-spec =
-    tie.close
-    (tie.spec element-copy-out-number-of element-copy-out-number-of-2 number-of-requires returns)
+contractor-in-spec = tie.close (tie.spec (λ c. search needs) (λ c. search needs) (λ c κs. search needs) returns)

@@ -1,34 +1,21 @@
 -- `grant::plain::is_marked` meets its contract.
-use Rattle.grant.proofs.Tests.{first-differs, second-differs, third-tells}
+use mathlib.Core.Path.{ap, _∙_}
+use mathlib.Core.Bool.{Bool, _&&_}
+use denote.Ref.{now}
+use lib.Dec.{eqb}
+use lib.ListN.{getD}
+use Rattle.grant.specs.Grants.{isMarked}
 use borrow.Author.Needs.{needs}
 use Rattle.grant.proofs.plain.is_marked.Statement.{statement}
 use Rattle.grant.proofs.plain.is_marked.Tie as tie
 
-element-copy-out-if1 : tie.Need-element-copy-out-if1
-element-copy-out-if1 c = search needs
-
 returns : tie.Need-returns
-returns c = first-differs _ (c .if1 .taken)
-
-element-copy-out-if2 : tie.Need-element-copy-out-if2
-element-copy-out-if2 c = search needs
-
-returns-2 : tie.Need-returns-2
-returns-2 c = second-differs _ (c .before .before .if1 .left) (c .if2 .taken)
-
-element-copy-out-result : tie.Need-element-copy-out-result
-element-copy-out-result c = search needs
-
-returns-3 : tie.Need-returns-3
-returns-3 c = third-tells _ (c .before .before .before .if1 .left) (c .before .if2 .left)
+unfolding isMarked
+returns c =
+    let p = now (c .before .before .before .before .before .args .p) in
+    c .both2 .ensures ∙ ap (λ (b : Bool). eqb (getD p 9 0) 0x47 && b) (c .before .both .ensures)
 
 pub is-marked-spec : {M : Type 1} → statement M
 is-marked-spec =
-    tie.close
-    (tie.spec
-    element-copy-out-if1
-    returns
-    element-copy-out-if2
-    returns-2
-    element-copy-out-result
-    returns-3)
+    tie.close (tie.spec (λ c. search needs) (λ c. search needs) (λ c. search needs) (λ c κs. search needs)
+    (λ c κs. search needs) returns)

@@ -1,53 +1,35 @@
 -- `grant::plain::plain_grant` meets its contract.
-use mathlib.Core.Path.{refl}
+use mathlib.Core.Path.{ap, _∙_}
+use mathlib.Core.List.{List, [], _∷_}
+use Prim.Native.Nat.{ℕ}
+use lib.ListN.{getD}
+use Rattle.numbers.specs.Numbers.{twoBytes}
 use Rattle.grant.specs.Grants.{plainGrant}
 use Rattle.grant.proofs.Tests.{right-small}
 use borrow.Author.Needs.{needs}
 use Rattle.grant.proofs.plain.plain_grant.Statement.{statement}
 use Rattle.grant.proofs.plain.plain_grant.Tie as tie
 
-cast-t7 : tie.Need-cast-t7
-cast-t7 c = search needs
+-- the twelve bytes, from those of contractor, count and size block
+abbrev bytes : List ℕ → List ℕ → List ℕ → ℕ → List ℕ
+bytes c n b r =
+    getD c 0 0 ∷ getD c 1 0 ∷ getD n 0 0 ∷ getD n 1 0 ∷ getD b 0 0 ∷ getD b 1 0 ∷ getD b 2 0 ∷ getD b 3 0 ∷ r ∷ 0x47 ∷ 0x52 ∷ 0x44 ∷ []
 
-cast-t9 : tie.Need-cast-t9
-cast-t9 c = search needs
-
-cast-t12 : tie.Need-cast-t12
-cast-t12 c = search needs
-
-cast-t14 : tie.Need-cast-t14
-cast-t14 c = search needs
-
-cast-t17 : tie.Need-cast-t17
-cast-t17 c = search needs
-
-cast-t20 : tie.Need-cast-t20
-cast-t20 c = search needs
-
-cast-t23 : tie.Need-cast-t23
-cast-t23 c = search needs
-
-cast-t25 : tie.Need-cast-t25
-cast-t25 c = search needs
-
-cast-t26 : tie.Need-cast-t26
-cast-t26 c = let s = right-small (c .args .right) (c .pre) in search needs
+cast-t35 : tie.Need-cast-t35
+cast-t35 c = let s = c .before .before .before in let h = right-small (s .args .right) (s .pre) in search needs
 
 returns : tie.Need-returns
 unfolding plainGrant
-returns c = refl
+returns c =
+    let n = c .before in
+    let a = n .before .before .args in
+    let b = c .four-bytes .result in
+    ap (λ (x : List ℕ). bytes x (n .two-bytes2 .result) b (a .right)) (n .before .two-bytes .ensures)
+    ∙ ap (λ (x : List ℕ). bytes (twoBytes (a .contractor)) x b (a .right)) (n .two-bytes2 .ensures)
+    ∙ ap (λ (x : List ℕ). bytes (twoBytes (a .contractor)) (twoBytes (a .count)) x (a .right)) (c .four-bytes .ensures)
 
 pub plain-grant-spec : {M : Type 1} → statement M
 plain-grant-spec =
-    tie.close
-    (tie.spec
-    cast-t7
-    cast-t9
-    cast-t12
-    cast-t14
-    cast-t17
-    cast-t20
-    cast-t23
-    cast-t25
-    cast-t26
-    returns)
+    tie.close (tie.spec (λ c κs. search needs) (λ c κs. search needs) (λ c κs. search needs) (λ c. search needs)
+    (λ c. search needs) (λ c. search needs) (λ c. search needs) (λ c. search needs) (λ c. search needs) (λ c. search needs)
+    (λ c. search needs) cast-t35 returns)

@@ -5,11 +5,8 @@ use borrow.Author.Needs.{needs}
 use Rattle.grant.proofs.plain.right_of.Statement.{statement}
 use Rattle.grant.proofs.plain.right_of.Tie as tie
 
-returns : tie.Need-returns
-returns c = search needs
-
 returns-2 : tie.Need-returns-2
 returns-2 c = sym (right-two _ (c .before .pre) (c .if1 .left))
 
 pub right-of-spec : {M : Type 1} → statement M
-right-of-spec = tie.close (tie.spec returns returns-2)
+right-of-spec = tie.close (tie.spec (λ c. search needs) returns-2)

@@ -1,32 +1,30 @@
 -- `holder::steps::step` meets its contract.
-use mathlib.Core.Path.{sym, ap, _∙_}
-use Rattle.holder.specs.declared.Way.{Way}
-use Rattle.holder.specs.Holder.{stepped}
+use mathlib.Core.Path.{_≡_}
+use lib.ListN.{length}
+use Rattle.holder.proofs.Whole.{number-asks, step-asks, step-on, step-back}
 use borrow.Author.Needs.{needs}
 use Rattle.holder.proofs.steps.step.Statement.{statement}
 use Rattle.holder.proofs.steps.step.Tie as tie
 
-enum-told : tie.Need-enum-told
-enum-told c = search needs
-
-step-on-requires : tie.Need-step-on-requires
-step-on-requires c κs = search needs
-
-enum-told-2 : tie.Need-enum-told-2
-enum-told-2 c = search needs
-
-step-back-requires : tie.Need-step-back-requires
-step-back-requires c κs = search needs
+bytes-held : (c : tie.Start) → length (c .args .h .bytes) ≡ 24
+bytes-held c = search needs
 
 returns : tie.Need-returns
-unfolding stepped
-returns c = c .step-on .ensures ∙ ap (λ (w : Way). stepped w (c .before .before .before .args .h)) (sym (c .before .enum-told .given .1))
+returns c =
+    let e = c .before .before .before in
+    let s = e .before .before .before in
+    step-on _ (s .pre) (bytes-held s) _ _ _ (e .enum-told .given .1) (c .before .stage-after .ensures) (c .number-after .ensures)
 
 returns-2 : tie.Need-returns-2
-unfolding stepped
-returns-2 c = c .step-back .ensures ∙ ap (λ (w : Way). stepped w (c .before .before .before .args .h)) (sym (c .before .enum-told2 .given .1))
+returns-2 c =
+    let e = c .before .before .before in
+    let s = e .before .before .before in
+    step-back _ (s .pre) (bytes-held s) _ _ _ (e .enum-told2 .given .1) (c .before .stage-before .ensures) (c .number-before .ensures)
 
 pub step-spec : {M : Type 1} → statement M
 step-spec =
-    tie.close
-    (tie.spec enum-told step-on-requires enum-told-2 step-back-requires returns returns-2)
+    tie.close (tie.spec (λ c. search needs)
+    (λ c κs. step-asks _ (c .before .before .before .before .pre) (bytes-held (c .before .before .before .before)))
+    (λ c κs. number-asks _ (c .before .before .before .before .before .pre)) (λ c. search needs)
+    (λ c κs. step-asks _ (c .before .before .before .before .pre) (bytes-held (c .before .before .before .before)))
+    (λ c κs. number-asks _ (c .before .before .before .before .before .pre)) returns returns-2)

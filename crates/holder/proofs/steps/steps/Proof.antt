@@ -1,12 +1,11 @@
 -- `holder::steps::steps` meets its contract.
-use mathlib.Core.Path.{_≡_, refl, sym, ap, _∙_}
+use mathlib.Core.Path.{_≡_, refl, ap, _∙_}
 use mathlib.Core.Bool.{true}
 use Prim.Native.Nat.{ℕ, _-_, _≤_}
 use native.Mathlib.Omega.{arith}
-use native.Mathlib.Numerals.{add-one}
-use Rattle.period.specs.Repeated.{repeated}
+use Rattle.basics.specs.Repeated.{repeated}
 use Rattle.holder.specs.Holder.{whole, stepped}
-use Rattle.holder.proofs.Whole.{step-whole}
+use Rattle.holder.proofs.Whole.{step-more}
 use borrow.Author.Needs.{needs}
 use Rattle.holder.proofs.steps.steps.Statement.{statement}
 use Rattle.holder.proofs.steps.steps.Tie as tie
@@ -17,29 +16,10 @@ Inv-loop way count at₀ i₀ at i = (i ≤ count) × ((at ≡ repeated i (stepp
 abbrev μ-loop : tie.MeasureT-loop
 μ-loop way count at₀ i₀ at i = count - i
 
-loop-holds : tie.Need-loop-holds Inv-loop μ-loop
-loop-holds c = (omega arith, (refl, c .pre))
-
-step-requires : tie.Need-step-requires Inv-loop μ-loop
-step-requires c κs = search needs
-
-add-i : tie.Need-add-i Inv-loop μ-loop
-add-i c = search needs
-
-loop-less : tie.Need-loop-less Inv-loop μ-loop
-loop-less c = search needs
-
 loop-again : tie.Need-loop-again Inv-loop μ-loop
 loop-again c =
-    let a = c .before .before .before .args in
-    let l = c .before .before .loop in
-    let e = c .step .ensures in (
-      omega arith,
-      (
-        e ∙ ap (stepped (a .way)) (l .inv .1 .0) ∙ ap (λ (m : ℕ). repeated m (stepped (a .way)) (a .h)) (sym (add-one (l .i))),
-        ap whole e ∙ step-whole (a .way) (l .at) (l .inv .1 .1),
-      ),
-    )
+    let l = c .before .before in
+    (omega arith, step-more (l .before .args .way) (l .before .args .h) (l .loop .at) _ (l .loop .i) (l .loop .inv .1) (c .step .ensures))
 
 returns : tie.Need-returns Inv-loop μ-loop
 returns c =
@@ -49,5 +29,5 @@ returns c =
 
 pub steps-spec : {M : Type 1} → statement M
 steps-spec =
-    tie.close
-    (tie.spec Inv-loop μ-loop loop-holds step-requires add-i loop-less loop-again returns)
+    tie.close (tie.spec Inv-loop μ-loop (λ c. (omega arith, (refl, c .pre))) (λ c κs. search needs) (λ c. search needs)
+    (λ c. search needs) loop-again returns)

@@ -1,5 +1,5 @@
 -- `route_log::run::put_row` meets its contract.
-use mathlib.Core.Path.{refl, sym, ap, _∙_}
+use mathlib.Core.Path.{refl, ap, _∙_}
 use mathlib.Core.List.{List, [], _∷_, _++_}
 use Prim.Native.Nat.{ℕ, _+_, _%_}
 use native.Mathlib.Omega.{arith}
@@ -12,74 +12,39 @@ use borrow.Author.Needs.{needs}
 use Rattle.route_log.proofs.run.put_row.Statement.{statement}
 use Rattle.route_log.proofs.run.put_row.Tie as tie
 
-cast-t10 : tie.Need-cast-t10
-cast-t10 c = search needs
-
-cast-t12 : tie.Need-cast-t12
-cast-t12 c = search needs
-
-way-byte-requires : tie.Need-way-byte-requires
-way-byte-requires c κs = search needs
-
-cast-t15 : tie.Need-cast-t15
-cast-t15 c = search needs
-
-cast-t17 : tie.Need-cast-t17
-cast-t17 c = search needs
-
-slice-aggregate-put-bytes : tie.Need-slice-aggregate-put-bytes
-slice-aggregate-put-bytes c = search needs
-
-put-bytes-requires : tie.Need-put-bytes-requires
-put-bytes-requires c κs = search needs
-
-add-put-bytes : tie.Need-add-put-bytes
-add-put-bytes c = search needs
-
-slice-aggregate-put-bytes-2 : tie.Need-slice-aggregate-put-bytes-2
-slice-aggregate-put-bytes-2 c = search needs
+abbrev start : tie.After-way-byte → tie.Start
+start w = let b = w .before .before in b .before .before .before .before .before
 
 put-bytes-requires-2 : tie.Need-put-bytes-requires-2
-put-bytes-requires-2 c κs = omega (arith, c .before .before .before .before .put-bytes .kept .0, c .before .before .before .before .before .before .before .before .before .before .before .before .before .before .before .before .pre .1 .0)
-
-add-put-bytes-2 : tie.Need-add-put-bytes-2
-add-put-bytes-2 c = search needs
-
-slice-aggregate-put-bytes-3 : tie.Need-slice-aggregate-put-bytes-3
-slice-aggregate-put-bytes-3 c = sym (c .before .before .before .before .before .before .before .before .before .before .before .before .before .before .before .before .before .before .before .before .before .pre .1 .1)
+put-bytes-requires-2 c κs =
+    let one = c .before .before .before .before in
+    omega (arith, one .put-bytes .kept .0, start (one .before .before .before .before .before) .pre .1 .0)
 
 put-bytes-requires-3 : tie.Need-put-bytes-requires-3
-put-bytes-requires-3 c κs = omega (arith, c .before .before .before .before .before .before .before .before .before .put-bytes .kept .0, c .before .before .before .before .put-bytes2 .kept .0, c .before .before .before .before .before .before .before .before .before .before .before .before .before .before .before .before .before .before .before .before .before .pre .1 .1)
-
-same-length : tie.Need-same-length
-same-length c = search needs
+put-bytes-requires-3 c κs =
+    let two = c .before .before .before .before in
+    let one = two .before .before .before .before .before in
+    let pre = start (one .before .before .before .before .before) .pre in
+    omega (arith, one .put-bytes .kept .0, two .put-bytes2 .kept .0, pre .0, pre .1 .1)
 
 returns : tie.Need-returns
 unfolding rowOf placed
 returns c =
-    let s = c .before .before .before .before .before .before .before .before .before .before .before .before .before .before .before .before .before .before .before .before .before .before .before .before in
+    let three = c .before .before in
+    let two = three .before .before .before .before .before in
+    let one = two .before .before .before .before .before in
+    let w = one .before .before .before .before .before in
+    let s = start w in
     let r = s .args .r in
+    let at = s .args .at in
+    let log = now (s .args .log) in
     let head : ℕ → List ℕ = λ w. r .number % 256 ∷ r .steps % 256 ∷ w ∷ r .holder .length % 256 ∷ r .holder .number % 256 ∷ [] in
-    three-parts (s .args .at) (head (c .before .before .before .before .before .before .before .before .before .before .before .before .before .before .before .before .before .way-byte .result)) (r .subkey) (r .holder .bytes) (now (s .args .log)) _ _ _ (omega arith) refl (s .pre .1 .0) (s .pre .1 .1)
-    (c .before .before .before .before .before .before .before .before .before .before .before .before .put-bytes .ensures) (c .before .before .before .before .before .before .before .put-bytes2 .ensures) (c .before .before .put-bytes3 .ensures)
-    ∙ ap (λ (w : ℕ). take (s .args .at) (now (s .args .log)) ++ ((head w ++ (r .subkey ++ r .holder .bytes)) ++ drop (s .args .at + 41) (now (s .args .log)))) (c .before .before .before .before .before .before .before .before .before .before .before .before .before .before .before .before .before .way-byte .ensures)
+    three-parts at (head (w .way-byte .result)) (r .subkey) (r .holder .bytes) log _ _ _ (omega arith) refl (s .pre .1 .0) (s .pre .1 .1)
+    (one .put-bytes .ensures) (two .put-bytes2 .ensures) (three .put-bytes3 .ensures)
+    ∙ ap (λ (w : ℕ). take at log ++ ((head w ++ (r .subkey ++ r .holder .bytes)) ++ drop (at + 41) log)) (w .way-byte .ensures)
 
 pub put-row-spec : {M : Type 1} → statement M
 put-row-spec =
-    tie.close
-    (tie.spec
-    cast-t10
-    cast-t12
-    way-byte-requires
-    cast-t15
-    cast-t17
-    slice-aggregate-put-bytes
-    put-bytes-requires
-    add-put-bytes
-    slice-aggregate-put-bytes-2
-    put-bytes-requires-2
-    add-put-bytes-2
-    slice-aggregate-put-bytes-3
-    put-bytes-requires-3
-    same-length
-    returns)
+    tie.close (tie.spec (λ c. search needs) (λ c. search needs) (λ c. search needs) (λ c. search needs) (λ c. search needs)
+    (λ c. search needs) (λ c. search needs) (λ c. search needs) (λ c. search needs) put-bytes-requires-2 (λ c. search needs)
+    (λ c. cc) put-bytes-requires-3 (λ c. search needs) returns)

@@ -5,11 +5,8 @@ use borrow.Author.Needs.{needs}
 use Rattle.route_log.proofs.run.step_row.Statement.{statement}
 use Rattle.route_log.proofs.run.step_row.Tie as tie
 
-outcome-number-requires : tie.Need-outcome-number-requires
-outcome-number-requires c κs = search needs
-
 returns : tie.Need-returns
 returns c i = record { number = c .outcome-number .ensures i; steps = 0; way = Forward; subkey = replicate 12 0; holder = c .before .before .args .r .holder }
 
 pub step-row-spec : {M : Type 1} → statement M
-step-row-spec = tie.close (tie.spec outcome-number-requires returns)
+step-row-spec = tie.close (tie.spec (λ c. search needs) returns)

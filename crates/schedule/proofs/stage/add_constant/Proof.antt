@@ -1,7 +1,7 @@
 -- `schedule::stage::add_constant` meets its contract.
 use mathlib.Core.Path.{_≡_, refl, sym, ap, ap₂, _∙_}
 use mathlib.Core.List.{_++_}
-use Prim.Native.Nat.{ℕ, _+_, _-_, _*_, _≤_}
+use Prim.Native.Nat.{ℕ, _-_, _*_, _≤_}
 use native.Mathlib.Nat.{mod-eq-of-lt}
 use native.Mathlib.Omega.{arith}
 use denote.Ref.{now}
@@ -26,12 +26,6 @@ Inv-loop t s k₀ n first p q j₀ k j =
 abbrev μ-loop : tie.MeasureT-loop
 μ-loop t s k₀ n first p q j₀ k j = n - j
 
-mul-n : tie.Need-mul-n Inv-loop μ-loop
-mul-n c = search needs
-
-sub-first : tie.Need-sub-first Inv-loop μ-loop
-sub-first c = search needs
-
 mul-first : tie.Need-mul-first Inv-loop μ-loop
 mul-first c = omega (arith, entry-place (c .args .t) (c .pre .0) (c .args .s) 0 (c .pre .1 .0 .1) (omega (arith, c .pre .0 .least)))
 
@@ -39,39 +33,17 @@ loop-holds : tie.Need-loop-holds Inv-loop μ-loop
 unfolding columns tableP tableQ
 loop-holds c = ((refl, (refl, (refl, refl))), (omega arith, refl))
 
-mul-x : tie.Need-mul-x Inv-loop μ-loop
-mul-x c = search needs
-
-element-copy-out-x : tie.Need-element-copy-out-x Inv-loop μ-loop
-element-copy-out-x c = search needs
-
 add-substitute-with : tie.Need-add-substitute-with Inv-loop μ-loop
 add-substitute-with c =
-    let p = c .before .before .before .before .before in
-    omega (arith, entry-place (p .args .t) (p .pre .0) (p .args .s) (c .before .before .before .before .loop .j) (p .pre .1 .0 .1) (omega arith))
-
-cast-substitute-with : tie.Need-cast-substitute-with Inv-loop μ-loop
-cast-substitute-with c = search needs
-
-substitute-with-requires : tie.Need-substitute-with-requires Inv-loop μ-loop
-substitute-with-requires c κs = search needs
-
-mul-k : tie.Need-mul-k Inv-loop μ-loop
-mul-k c = search needs
-
-element-write-k : tie.Need-element-write-k Inv-loop μ-loop
-element-write-k c = search needs
-
-add-j : tie.Need-add-j Inv-loop μ-loop
-add-j c = search needs
-
-loop-less : tie.Need-loop-less Inv-loop μ-loop
-loop-less c = search needs
+    let q = c .before .before .before .before in
+    let p = q .before in
+    omega (arith, entry-place (p .args .t) (p .pre .0) (p .args .s) (q .loop .j) (p .pre .1 .0 .1) (omega arith))
 
 loop-again : tie.Need-loop-again Inv-loop μ-loop
 loop-again c =
-    let p = c .before .before .before .before .before .before in
-    let l = c .before .before .before .before .before .loop in
+    let q = c .before .before .before .before .before in
+    let p = q .before in
+    let l = q .loop in
     let t = p .args .t in
     let s = p .args .s in
     let k = now (p .args .k) in
@@ -100,22 +72,6 @@ returns c =
 
 pub add-constant-spec : {M : Type 1} → statement M
 add-constant-spec =
-    tie.close
-    (tie.spec
-    Inv-loop
-    μ-loop
-    mul-n
-    sub-first
-    mul-first
-    loop-holds
-    mul-x
-    element-copy-out-x
-    add-substitute-with
-    cast-substitute-with
-    substitute-with-requires
-    mul-k
-    element-write-k
-    add-j
-    loop-less
-    loop-again
-    returns)
+    tie.close (tie.spec Inv-loop μ-loop (λ c. search needs) (λ c. search needs) mul-first loop-holds (λ c. search needs)
+    (λ c. search needs) add-substitute-with (λ c. search needs) (λ c κs. search needs) (λ c. search needs)
+    (λ c. search needs) (λ c. search needs) (λ c. search needs) loop-again returns)

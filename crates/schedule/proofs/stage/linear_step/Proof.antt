@@ -20,93 +20,31 @@ Inv-loop t k₀ n first before₀ j₀ k before j =
 abbrev μ-loop : tie.MeasureT-loop
 μ-loop t k₀ n first before₀ j₀ k before j = n - j
 
-mul-n : tie.Need-mul-n Inv-loop μ-loop
-mul-n c = search needs
-
-element-copy-out-first : tie.Need-element-copy-out-first Inv-loop μ-loop
-element-copy-out-first c = search needs
-
-mul-before : tie.Need-mul-before Inv-loop μ-loop
-mul-before c = search needs
-
-sub-before : tie.Need-sub-before Inv-loop μ-loop
-sub-before c = search needs
-
-element-copy-out-before : tie.Need-element-copy-out-before Inv-loop μ-loop
-element-copy-out-before c = search needs
-
 loop-holds : tie.Need-loop-holds Inv-loop μ-loop
 unfolding columns
 loop-holds c =
-    let a = c .before .before .args in
-    let e : 6 * a .t - 1 ≡ 2 + 3 * previous (2 * a .t) 0 = omega (arith, previous-around (2 * a .t) 0 (omega (arith, c .before .before .pre .0 .least)) (omega arith)) in
+    let s = c .before .before in
+    let a = s .args in
+    let p = previous-around (2 * a .t) 0 (omega (arith, s .pre .0 .least)) (omega arith) in
+    let e : 6 * a .t - 1 ≡ 2 + 3 * previous (2 * a .t) 0 = omega arith in
     ((refl, (refl, ap (λ (p : ℕ). getD (now (a .k)) p 0) e)), (omega arith, refl))
-
-mul-x : tie.Need-mul-x Inv-loop μ-loop
-mul-x c = search needs
-
-element-copy-out-x : tie.Need-element-copy-out-x Inv-loop μ-loop
-element-copy-out-x c = search needs
-
-row-one-after-requires : tie.Need-row-one-after-requires Inv-loop μ-loop
-row-one-after-requires c κs = search needs
-
-column-term-requires : tie.Need-column-term-requires Inv-loop μ-loop
-column-term-requires c κs = search needs
-
-mul-before-2 : tie.Need-mul-before-2 Inv-loop μ-loop
-mul-before-2 c = search needs
-
-add-before : tie.Need-add-before Inv-loop μ-loop
-add-before c = search needs
-
-element-copy-out-before-2 : tie.Need-element-copy-out-before-2 Inv-loop μ-loop
-element-copy-out-before-2 c = search needs
-
-mul-k : tie.Need-mul-k Inv-loop μ-loop
-mul-k c = search needs
-
-element-write-k : tie.Need-element-write-k Inv-loop μ-loop
-element-write-k c = search needs
-
-mul-k-2 : tie.Need-mul-k-2 Inv-loop μ-loop
-mul-k-2 c = search needs
-
-add-k : tie.Need-add-k Inv-loop μ-loop
-add-k c = search needs
-
-element-write-k-2 : tie.Need-element-write-k-2 Inv-loop μ-loop
-element-write-k-2 c = search needs
-
-mul-k-3 : tie.Need-mul-k-3 Inv-loop μ-loop
-mul-k-3 c = search needs
-
-add-k-2 : tie.Need-add-k-2 Inv-loop μ-loop
-add-k-2 c = search needs
-
-element-write-k-3 : tie.Need-element-write-k-3 Inv-loop μ-loop
-element-write-k-3 c = search needs
-
-add-j : tie.Need-add-j Inv-loop μ-loop
-add-j c = search needs
-
-loop-less : tie.Need-loop-less Inv-loop μ-loop
-loop-less c = search needs
 
 loop-again : tie.Need-loop-again Inv-loop μ-loop
 loop-again c =
-    let a = c .before .before .before .before .before .before .before .before .before .args in
-    let l = c .before .before .before .before .before .before .loop in
+    let r = c .before .before in
+    let p = r .before .before .before .before in
+    let s = p .before .before .before in
+    let l = p .loop in
     let inv = l .inv in
-    let k = now (a .k) in
-    let n = 2 * a .t in
+    let k = now (s .args .k) in
+    let n = 2 * s .args .t in
     let h : l .j < n = omega arith in (
       (refl, (inv .0 .1 .0, read-unwritten n k (l .k) (l .j) h (inv .1 .1) 2 _ (omega arith) ∙ ap (cell k 2) (previous-next n (l .j) h))),
       (
         search needs,
-        column-stepped n k (l .k) (l .j) h (inv .1 .1) _ (c .before .before .row-one-after .result) (l .before) (c .before .column-term .result) (omega (arith, c .before .before .before .before .before .before .before .before .before .pre .0 .most, c .before .before .before .before .before .before .before .before .before .pre .1))
-            (read-unwritten n k (l .k) (l .j) h (inv .1 .1) 0 _ (omega arith))
-            (c .before .before .row-one-after .ensures ∙ read-after n k (l .k) (l .j) h (inv .1 .1) _ (inv .0 .1 .0)) (inv .0 .1 .1)
+        column-stepped n k (l .k) (l .j) h (inv .1 .1) _ (r .row-one-after .result) (l .before) (c .before .column-term .result)
+            (omega (arith, s .pre .0 .most, s .pre .1)) (read-unwritten n k (l .k) (l .j) h (inv .1 .1) 0 _ (omega arith))
+            (r .row-one-after .ensures ∙ read-after n k (l .k) (l .j) h (inv .1 .1) _ (inv .0 .1 .0)) (inv .0 .1 .1)
             (c .before .column-term .ensures),
       ),
     )
@@ -122,32 +60,8 @@ returns c =
 
 pub linear-step-spec : {M : Type 1} → statement M
 linear-step-spec =
-    tie.close
-    (tie.spec
-    Inv-loop
-    μ-loop
-    mul-n
-    element-copy-out-first
-    mul-before
-    sub-before
-    element-copy-out-before
-    loop-holds
-    mul-x
-    element-copy-out-x
-    row-one-after-requires
-    column-term-requires
-    mul-before-2
-    add-before
-    element-copy-out-before-2
-    mul-k
-    element-write-k
-    mul-k-2
-    add-k
-    element-write-k-2
-    mul-k-3
-    add-k-2
-    element-write-k-3
-    add-j
-    loop-less
-    loop-again
-    returns)
+    tie.close (tie.spec Inv-loop μ-loop (λ c. search needs) (λ c. search needs) (λ c. search needs) (λ c. search needs)
+    (λ c. search needs) loop-holds (λ c. search needs) (λ c. search needs) (λ c κs. search needs) (λ c κs. search needs)
+    (λ c. search needs) (λ c. search needs) (λ c. search needs) (λ c. search needs) (λ c. search needs) (λ c. search needs)
+    (λ c. search needs) (λ c. search needs) (λ c. search needs) (λ c. search needs) (λ c. search needs) (λ c. search needs)
+    (λ c. search needs) loop-again returns)

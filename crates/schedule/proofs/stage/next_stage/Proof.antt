@@ -12,16 +12,15 @@ use borrow.Author.Needs.{needs}
 use Rattle.schedule.proofs.stage.next_stage.Statement.{statement}
 use Rattle.schedule.proofs.stage.next_stage.Tie as tie
 
-add-constant-requires : tie.Need-add-constant-requires
-add-constant-requires c κs = search needs
-
 linear-step-requires : tie.Need-linear-step-requires
 linear-step-requires c κs =
     let p = c .before .before .before in
     let t = p .args .t in
     let k = now (p .args .k) in
-    let e : length (plus (2 * t) k (constant t (p .args .s))) ≡ 6 * t = omega (arith, length-plus (2 * t) k (constant t (p .args .s))) in
-    (p .pre .0, ap length (c .before .add-constant .ensures) ∙ length-kept (6 * t) (plus (2 * t) k (constant t (p .args .s))) k e (omega (arith, p .pre .0 .most, p .pre .1 .1)) ∙ p .pre .1 .1)
+    let sum = plus (2 * t) k (constant t (p .args .s)) in
+    let e : length sum ≡ 6 * t = omega (arith, length-plus (2 * t) k (constant t (p .args .s))) in
+    let kept = length-kept (6 * t) sum k e (omega (arith, p .pre .0 .most, p .pre .1 .1)) in
+    (p .pre .0, ap length (c .before .add-constant .ensures) ∙ kept ∙ p .pre .1 .1)
 
 returns : tie.Need-returns
 returns c =
@@ -33,4 +32,4 @@ returns c =
     ∙ step-kept t (plus (2 * t) k (constant t (p .args .s))) (drop (6 * t) k) (length-plus (2 * t) k (constant t (p .args .s)))
 
 pub next-stage-spec : {M : Type 1} → statement M
-next-stage-spec = tie.close (tie.spec add-constant-requires linear-step-requires returns)
+next-stage-spec = tie.close (tie.spec (λ c κs. search needs) linear-step-requires returns)

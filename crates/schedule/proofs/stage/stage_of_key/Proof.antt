@@ -22,23 +22,12 @@ loop-holds : tie.Need-loop-holds Inv-loop μ-loop
 unfolding padded
 loop-holds c = (omega arith, refl)
 
-shared-slice-read-stage : tie.Need-shared-slice-read-stage Inv-loop μ-loop
-shared-slice-read-stage c = search needs
-
-array-write-stage : tie.Need-array-write-stage Inv-loop μ-loop
-array-write-stage c = search needs
-
-add-i : tie.Need-add-i Inv-loop μ-loop
-add-i c = search needs
-
-loop-less : tie.Need-loop-less Inv-loop μ-loop
-loop-less c = search needs
-
 loop-again : tie.Need-loop-again Inv-loop μ-loop
 loop-again c =
-    let key = now (c .before .before .before .args .key) in
-    let i = c .before .before .loop .i in
-    (search needs, ap (λ (stage : List ℕ). set stage i (getD key i 0)) (c .before .before .loop .inv .1) ∙ padded-next key i (omega arith) (c .before .before .before .pre))
+    let l = c .before .before in
+    let key = now (l .before .args .key) in
+    let i = l .loop .i in
+    (search needs, ap (λ (stage : List ℕ). set stage i (getD key i 0)) (l .loop .inv .1) ∙ padded-next key i (omega arith) (l .before .pre))
 
 returns : tie.Need-returns Inv-loop μ-loop
 returns c =
@@ -48,14 +37,5 @@ returns c =
 
 pub stage-of-key-spec : {M : Type 1} → statement M
 stage-of-key-spec =
-    tie.close
-    (tie.spec
-    Inv-loop
-    μ-loop
-    loop-holds
-    shared-slice-read-stage
-    array-write-stage
-    add-i
-    loop-less
-    loop-again
-    returns)
+    tie.close (tie.spec Inv-loop μ-loop loop-holds (λ c. search needs) (λ c. search needs) (λ c. search needs)
+    (λ c. search needs) loop-again returns)

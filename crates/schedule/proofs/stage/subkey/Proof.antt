@@ -6,22 +6,6 @@ use Rattle.sbox.specs.Sbox.{tableP, tableQ}
 use Rattle.schedule.proofs.stage.subkey.Statement.{statement}
 use Rattle.schedule.proofs.stage.subkey.Tie as tie
 
-subkey-column-requires : tie.Need-subkey-column-requires
-unfolding tableP tableQ
-subkey-column-requires c κs = (refl, (refl, lit< tt))
-
-subkey-column-requires-2 : tie.Need-subkey-column-requires-2
-unfolding tableP tableQ
-subkey-column-requires-2 c κs = (refl, (refl, lit< tt))
-
-subkey-column-requires-3 : tie.Need-subkey-column-requires-3
-unfolding tableP tableQ
-subkey-column-requires-3 c κs = (refl, (refl, lit< tt))
-
-subkey-column-requires-4 : tie.Need-subkey-column-requires-4
-unfolding tableP tableQ
-subkey-column-requires-4 c κs = (refl, (refl, lit< tt))
-
 returns : tie.Need-returns
 returns c t =
     let third = c .before .before .before in
@@ -30,11 +14,7 @@ returns c t =
     first .subkey-column .ensures t ∷ second .subkey-column2 .ensures t ∷ third .subkey-column3 .ensures t ∷ c .subkey-column4 .ensures t ∷ []
 
 pub subkey-spec : {M : Type 1} → statement M
+unfolding tableP tableQ
 subkey-spec =
-    tie.close
-    (tie.spec
-    subkey-column-requires
-    subkey-column-requires-2
-    subkey-column-requires-3
-    subkey-column-requires-4
-    returns)
+    tie.close (tie.spec (λ c κs. (refl, (refl, lit< tt))) (λ c κs. (refl, (refl, lit< tt))) (λ c κs. (refl, (refl, lit< tt)))
+    (λ c κs. (refl, (refl, lit< tt))) returns)

@@ -5,16 +5,13 @@ use borrow.Author.Needs.{needs}
 use Rattle.verdicts.proofs.calls.call_check.Statement.{statement}
 use Rattle.verdicts.proofs.calls.call_check.Tie as tie
 
-gordzila-check-requires : tie.Need-gordzila-check-requires
-gordzila-check-requires c κs = search needs
-
 returns : tie.Need-returns
 returns c =
     let s = c .before .before .before .before in
     let a = s .args in
     call-decided (now (a .key)) (λ i. c .before .before .before .shared-slice-known .given i .fits) (a .rounds) (now (a .grant))
-    (λ i. c .before .shared-slice-known3 .given i .fits) (a .block) (s .fits .block .fits) (a .right) (now (a .roll)) (c .gordzila-check .result)
+    (λ i. c .before .shared-slice-known3 .given i .fits) (a .size-block) (s .fits .size-block .fits) (a .right) (now (a .roll)) (c .gordzila-check .result)
     (c .gordzila-check .ensures)
 
 pub call-check-spec : {M : Type 1} → statement M
-call-check-spec = tie.close (tie.spec gordzila-check-requires returns)
+call-check-spec = tie.close (tie.spec (λ c κs. search needs) returns)

@@ -5,15 +5,13 @@ use borrow.Author.Needs.{needs}
 use Rattle.verdicts.proofs.grants.check.Statement.{statement}
 use Rattle.verdicts.proofs.grants.check.Tie as tie
 
-check-requires : tie.Need-check-requires
-check-requires c κs = search needs
-
 returns : tie.Need-returns
 returns c =
     let s = c .before .before .before in
     let a = s .args in
     decided (now (a .key)) (λ i. c .before .before .shared-slice-known .given i .fits) (a .rounds) (now (a .grant))
-    (λ i. c .before .shared-slice-known2 .given i .fits) (a .block) (s .fits .block .fits) (a .right) (a .roll) (c .check .result) (c .check .ensures)
+    (λ i. c .before .shared-slice-known2 .given i .fits) (a .size-block) (s .fits .size-block .fits) (a .right) (a .roll) (c .check .result)
+    (c .check .ensures)
 
 pub check-spec : {M : Type 1} → statement M
-check-spec = tie.close (tie.spec check-requires returns)
+check-spec = tie.close (tie.spec (λ c κs. search needs) returns)

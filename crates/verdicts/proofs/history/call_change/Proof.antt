@@ -2,17 +2,11 @@
 use mathlib.Core.Path.{sym, ap, _∙_}
 use denote.Ref.{now}
 use Rattle.histories.specs.Histories.{Change}
-use Rattle.boxes.specs.Boxes.{called}
+use Rattle.call_claims.specs.CallHistories.{called}
 use Rattle.verdicts.proofs.Kept.{enters, withdraws}
 use borrow.Author.Needs.{needs}
 use Rattle.verdicts.proofs.history.call_change.Statement.{statement}
 use Rattle.verdicts.proofs.history.call_change.Tie as tie
-
-gordzila-enter-requires : tie.Need-gordzila-enter-requires
-gordzila-enter-requires c κs = search needs
-
-same-length : tie.Need-same-length
-same-length c = search needs
 
 returns : tie.Need-returns
 unfolding called
@@ -20,12 +14,6 @@ returns c =
     let e = c .before .before in
     let s = e .before .before .before .before in
     e .gordzila-enter .ensures .1 ∙ ap (λ (h : Change). called h (now (s .args .roll))) (sym (enters (s .args .call) (e .before .before .if1 .taken)))
-
-gordzila-withdraw-requires : tie.Need-gordzila-withdraw-requires
-gordzila-withdraw-requires c κs = search needs
-
-same-length-2 : tie.Need-same-length-2
-same-length-2 c = search needs
 
 returns-2 : tie.Need-returns-2
 unfolding called
@@ -36,11 +24,5 @@ returns-2 c =
 
 pub call-change-spec : {M : Type 1} → statement M
 call-change-spec =
-    tie.close
-    (tie.spec
-    gordzila-enter-requires
-    same-length
-    returns
-    gordzila-withdraw-requires
-    same-length-2
+    tie.close (tie.spec (λ c κs. search needs) (λ c. search needs) returns (λ c κs. search needs) (λ c. search needs)
     returns-2)

@@ -4,7 +4,7 @@ use Prim.Native.Nat.{_-_, _≤_}
 use native.Mathlib.Omega.{arith}
 use denote.Ref.{now}
 use lib.ListN.{length}
-use Rattle.boxes.specs.Boxes.{bytesAfter}
+use Rattle.call_claims.specs.CallHistories.{bytesAfter}
 use Rattle.verdicts.specs.Decisions.{changesFrom}
 use Rattle.verdicts.proofs.Kept.{after-to, after-next, after-all}
 use borrow.Author.Needs.{needs}
@@ -21,21 +21,6 @@ loop-holds : tie.Need-loop-holds Inv-loop μ-loop
 unfolding after-to bytesAfter changesFrom
 loop-holds c = (refl, (omega arith, refl))
 
-mul-call-change : tie.Need-mul-call-change Inv-loop μ-loop
-mul-call-change c = search needs
-
-shared-slice-read-call-change : tie.Need-shared-slice-read-call-change Inv-loop μ-loop
-shared-slice-read-call-change c = search needs
-
-call-change-requires : tie.Need-call-change-requires Inv-loop μ-loop
-call-change-requires c κs = search needs
-
-add-i : tie.Need-add-i Inv-loop μ-loop
-add-i c = search needs
-
-loop-less : tie.Need-loop-less Inv-loop μ-loop
-loop-less c = search needs
-
 loop-again : tie.Need-loop-again Inv-loop μ-loop
 loop-again c =
     let k = c .before .before in
@@ -46,9 +31,6 @@ loop-again c =
     (k .call-change .ensures) in
     (k .call-change .kept .0 ∙ l .loop .inv .0, (omega arith, n))
 
-same-length : tie.Need-same-length Inv-loop μ-loop
-same-length c = search needs
-
 returns : tie.Need-returns Inv-loop μ-loop
 returns c =
     let l = c .before .loop in
@@ -57,16 +39,5 @@ returns c =
 
 pub call-changes-spec : {M : Type 1} → statement M
 call-changes-spec =
-    tie.close
-    (tie.spec
-    Inv-loop
-    μ-loop
-    loop-holds
-    mul-call-change
-    shared-slice-read-call-change
-    call-change-requires
-    add-i
-    loop-less
-    loop-again
-    same-length
-    returns)
+    tie.close (tie.spec Inv-loop μ-loop loop-holds (λ c. search needs) (λ c. search needs) (λ c κs. search needs)
+    (λ c. search needs) (λ c. search needs) loop-again (λ c. search needs) returns)

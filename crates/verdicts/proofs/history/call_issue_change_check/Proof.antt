@@ -1,21 +1,12 @@
 -- `verdicts::history::call_issue_change_check` meets its contract.
 use mathlib.Core.Path.{sym, _∙_}
 use denote.Ref.{now}
-use Rattle.blocks.specs.Blocks.{AreBytes}
+use Rattle.basics.specs.Bytes.{AreBytes}
 use Rattle.verdicts.proofs.Laws.{call-room, twelve-taken}
 use Rattle.verdicts.proofs.Kept.{kept-refused, kept-checked}
 use borrow.Author.Needs.{needs}
 use Rattle.verdicts.proofs.history.call_issue_change_check.Statement.{statement}
 use Rattle.verdicts.proofs.history.call_issue_change_check.Tie as tie
-
-gordzila-issue-requires : tie.Need-gordzila-issue-requires
-gordzila-issue-requires c κs = search needs
-
-same-length : tie.Need-same-length
-same-length c = search needs
-
-same-length-2 : tie.Need-same-length-2
-same-length-2 c = search needs
 
 returns : tie.Need-returns
 returns c =
@@ -23,12 +14,9 @@ returns c =
     let known = i .before .before .before .before .before in
     let a = known .before .before .args in
     let n = i .gordzila-issue .ensures in
-    let k = kept-refused (now (a .key)) (a .rounds) (now (a .roll)) (a .contractor) (a .block) (a .right) (now (a .calls)) (a .asked) (a .access)
+    let k = kept-refused (now (a .key)) (a .rounds) (now (a .roll)) (a .contractor) (a .size-block) (a .right) (now (a .calls)) (a .asked) (a .access)
     (now (a .out)) _ (n .0) (c .if1 .taken) in
     (k .0, (k .1 .0, (k .1 .1, n .1)))
-
-call-changes-requires : tie.Need-call-changes-requires
-call-changes-requires c κs = search needs
 
 slice-reshare-prefix-gordzila-check : tie.Need-slice-reshare-prefix-gordzila-check
 slice-reshare-prefix-gordzila-check c =
@@ -37,7 +25,7 @@ slice-reshare-prefix-gordzila-check c =
     let known = i .before .before .before .before .before in
     let a = known .before .before .args in
     let n = i .gordzila-issue .ensures in
-    call-room (now (a .key)) (a .rounds) (now (a .roll)) (a .contractor) (a .block) (a .right) (now (a .out)) (sym (n .0) ∙ t .if1 .left) _ (n .1)
+    call-room (now (a .key)) (a .rounds) (now (a .roll)) (a .contractor) (a .size-block) (a .right) (now (a .out)) (sym (n .0) ∙ t .if1 .left) _ (n .1)
 
 slice-aggregate-gordzila-check : tie.Need-slice-aggregate-gordzila-check
 slice-aggregate-gordzila-check c =
@@ -48,16 +36,7 @@ slice-aggregate-gordzila-check c =
     let a = known .before .before .args in
     let n = i .gordzila-issue .ensures in
     let e = sym (n .0) ∙ t .if1 .left in
-    twelve-taken (n .1) (call-room (now (a .key)) (a .rounds) (now (a .roll)) (a .contractor) (a .block) (a .right) (now (a .out)) e _ (n .1))
-
-gordzila-check-requires : tie.Need-gordzila-check-requires
-gordzila-check-requires c κs = search needs
-
-same-length-3 : tie.Need-same-length-3
-same-length-3 c = search needs
-
-same-length-4 : tie.Need-same-length-4
-same-length-4 c = search needs
+    twelve-taken (n .1) (call-room (now (a .key)) (a .rounds) (now (a .roll)) (a .contractor) (a .size-block) (a .right) (now (a .out)) e _ (n .1))
 
 returns-2 : tie.Need-returns-2
 returns-2 c =
@@ -70,23 +49,13 @@ returns-2 c =
     let n = i .gordzila-issue .ensures in
     let key : AreBytes (now (a .key)) = λ j. known .before .shared-slice-known .given j .fits in
     let roll : AreBytes (now (a .roll)) = λ j. known .slice-known .given j .fits in
-    let k = kept-checked (now (a .key)) (a .rounds) (now (a .roll)) (a .contractor) (a .block) (a .right) (now (a .calls)) (a .asked) (a .access)
-    (now (a .out)) (sym (n .0) ∙ t .if1 .left) key roll (s .fits .block .fits) _ (n .1) _ (h .call-changes .ensures) (c .gordzila-check .result)
+    let k = kept-checked (now (a .key)) (a .rounds) (now (a .roll)) (a .contractor) (a .size-block) (a .right) (now (a .calls)) (a .asked) (a .access)
+    (now (a .out)) (sym (n .0) ∙ t .if1 .left) key roll (s .fits .size-block .fits) _ (n .1) _ (h .call-changes .ensures) (c .gordzila-check .result)
     (c .gordzila-check .ensures) in
     (k .0, (k .1 .0, (k .1 .1, n .1)))
 
 pub call-issue-change-check-spec : {M : Type 1} → statement M
 call-issue-change-check-spec =
-    tie.close
-    (tie.spec
-    gordzila-issue-requires
-    same-length
-    same-length-2
-    returns
-    call-changes-requires
-    slice-reshare-prefix-gordzila-check
-    slice-aggregate-gordzila-check
-    gordzila-check-requires
-    same-length-3
-    same-length-4
-    returns-2)
+    tie.close (tie.spec (λ c κs. search needs) (λ c. search needs) (λ c. search needs) returns (λ c κs. search needs)
+    slice-reshare-prefix-gordzila-check slice-aggregate-gordzila-check (λ c κs. search needs) (λ c. search needs)
+    (λ c. search needs) returns-2)

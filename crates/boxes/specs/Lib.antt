@@ -1,2 +1,0 @@
-pub mod Boxes
-pub mod Claims

@@ -1,0 +1,136 @@
+-- A term of each type of specs/Claims.antt.
+use mathlib.Core.Path.{_≡_, refl, sym, ap, _∙_}
+use mathlib.Core.Bool.{Bool, true, false}
+use mathlib.Core.List.{List, [], _∷_}
+use Prim.Native.Nat.{ℕ, _+_, _*_, _≤_}
+use native.Mathlib.Omega.{arith}
+use lib.Dec.{leb, lit<}
+use lib.ListN.{length, replicate}
+use borrow.Author.Tests.{leb-true, leb-false, eqb-true}
+use Rattle.refusal.specs.Tries.{first, written, answered, NoneHolds}
+use Rattle.refusal.proofs.Tries.{none-given}
+use Rattle.refusal.proofs.Ladder.{all-pass}
+use Rattle.refusal.proofs.Answers.{starts}
+use Rattle.cipher.specs.Cipher.{cipherBlock}
+use Rattle.roll.specs.Roll.{countOf, inStanding, counted, enteredRoll, countsOf, rollLength, rollOf, countsBytes, rollBytes}
+use Rattle.histories.specs.Histories.{Change, enter, rollAfter}
+use Rattle.histories.proofs.Counts.{zeros-small}
+use Rattle.grant.specs.declared.Verdict.the-variants.{Opens, Refused}
+use Rattle.grant.specs.Calls.{issueTries, issuedGrant, checkNumber}
+use Rattle.revocation.specs.Claims.{Issued, OpensNothing, IssuedOpens, RevokedNeverOpens, RevokedInTwoRooms}
+use Rattle.revocation.proofs.Claims.{issued-opens, revoked-never-opens, revoked-in-two-rooms}
+use Rattle.check_call.specs.CheckCall.{callCode}
+use Rattle.roll_calls.specs.RollCalls.{enterCallRoll, issueCallTries, issueCallNumber, issueCallOutput}
+use Rattle.call_claims.specs.CallHistories.{called, bytesAfter, here, CallIssued, grantGiven}
+use Rattle.call_claims.specs.Claims.{CodesTellVerdicts, ChecksNameContractors, CallInOrder, CallOpensExactlyWhen, CallNeverZero, CallIsCheck}
+use Rattle.call_claims.specs.Claims.{Refuses, BytesFollowRoll, CallIssuedOpens, CallsRevoke, CallsRevokeInTwoRooms, CallsRevokeSomething}
+use Rattle.call_claims.proofs.Codes as codes
+use Rattle.call_claims.proofs.Opens.{checked-contractor, in-order, is-check, call-opening, call-accepted, never-zero, call-passed, call-given}
+use Rattle.call_claims.proofs.Stored.{is-roll, after-holds, withdrawn-read}
+
+-- ---- the check's number
+pub codes-tell-verdicts : CodesTellVerdicts
+codes-tell-verdicts = codes.codes-tell-verdicts
+
+pub checks-name-contractors : ChecksNameContractors
+unfolding ChecksNameContractors
+checks-name-contractors key rounds roll grant block right (Opens g) n c =
+    let h = checked-contractor key rounds roll grant block right (sym n) in (omega (arith, h .0, c), omega (arith, h .1, c))
+checks-name-contractors key rounds roll grant block right (Refused r) n c = tt
+
+pub call-in-order : CallInOrder
+unfolding CallInOrder
+call-in-order = in-order
+
+pub call-opens-exactly-when : CallOpensExactlyWhen
+unfolding CallOpensExactlyWhen
+call-opens-exactly-when key hk rounds roll grant hg block few right =
+    (call-opening key hk rounds roll grant hg block few right, call-accepted key hk rounds roll grant hg block few right)
+
+pub call-never-zero : CallNeverZero
+unfolding CallNeverZero
+call-never-zero = never-zero
+
+pub call-is-check : CallIsCheck
+unfolding CallIsCheck
+call-is-check = is-check
+
+-- ---- a store through its C calls
+pub bytes-follow-roll : BytesFollowRoll
+unfolding BytesFollowRoll
+bytes-follow-roll bytes h e hs = after-holds hs bytes h e
+
+-- ---- a grant that gordzila_issue wrote
+module _ (key : List ℕ) (rounds : ℕ) (roll : List ℕ) (contractor block right : ℕ) (out : List ℕ)
+    (i : CallIssued key rounds roll contractor block right out) where
+  allowed : NoneHolds (issueCallTries key rounds roll contractor block right out)
+  allowed = all-pass (issueCallTries key rounds roll contractor block right out) refl (i .number)
+
+  long : length roll ≡ rollLength
+  long = eqb-true (length roll) rollLength (allowed .1 .1 .0)
+
+  -- it is one that was issued on the roll that is read
+  issued : Issued key rounds (rollOf roll) contractor block right out
+  issued = record {
+    key-bytes = i .key-bytes;
+    block-small = i .block-small;
+    number = none-given (issueTries key rounds (rollOf roll) contractor block right out) (allowed .0, (allowed .1 .0, allowed .1 .1 .1));
+  }
+
+  given : grantGiven key rounds roll contractor block right out ≡ issuedGrant key rounds (rollOf roll) contractor block right
+  unfolding issueCallOutput issuedGrant cipherBlock
+  given = starts (issueCallNumber key rounds roll contractor block right out) (issuedGrant key rounds (rollOf roll) contractor block right) out (i .number) .1
+
+  pub opens : callCode key rounds roll (grantGiven key rounds roll contractor block right out) block right ≡ 1000 * right + contractor
+  unfolding IssuedOpens
+  opens =
+      ap (λ (g : List ℕ). callCode key rounds roll g block right) given
+      ∙ call-given key rounds roll (issuedGrant key rounds (rollOf roll) contractor block right) block right long contractor
+      (issued-opens key rounds (rollOf roll) contractor block right out issued .opens)
+
+  -- where it opens nothing on the roll after some calls, gordzila_check refuses it on the bytes after them
+  refused : (hs : List Change) → OpensNothing key rounds (rollAfter hs (rollOf roll)) (issuedGrant key rounds (rollOf roll) contractor block right)
+      → Refuses key rounds (bytesAfter hs roll) (grantGiven key rounds roll contractor block right out)
+  unfolding CallNeverZero
+  refused hs n b r = (call-never-zero key rounds (bytesAfter hs roll) g b r, by (leb (callCode key rounds (bytesAfter hs roll) g b r) 999) refl)
+    where
+      g : List ℕ
+      g = grantGiven key rounds roll contractor block right out
+
+      by : (t : Bool) → leb (callCode key rounds (bytesAfter hs roll) g b r) 999 ≡ t → callCode key rounds (bytesAfter hs roll) g b r ≤ 999
+      by true t = leb-true _ 999 t
+      by false t =
+          let e = call-passed key rounds (bytesAfter hs roll) g b r (leb-false _ 999 t) .1 in
+          absurd (n b r ((λ j. checkNumber key rounds (sym (after-holds hs roll (i .roll-bytes) long .read) j) (sym given j) b r) ∙ e))
+
+pub call-issued-opens : CallIssuedOpens
+unfolding CallIssuedOpens
+call-issued-opens = opens
+
+pub calls-revoke : CallsRevoke
+unfolding CallsRevoke RevokedNeverOpens
+calls-revoke key rounds roll contractor block right out i hs w =
+    refused key rounds roll contractor block right out i hs
+    (revoked-never-opens key rounds (rollOf roll) contractor block right out (issued key rounds roll contractor block right out i)
+    (is-roll roll (i .roll-bytes) (long key rounds roll contractor block right out i)) hs
+    (withdrawn-read w (i .roll-bytes) (long key rounds roll contractor block right out i)))
+
+pub calls-revoke-in-two-rooms : CallsRevokeInTwoRooms
+unfolding CallsRevokeInTwoRooms RevokedInTwoRooms
+calls-revoke-in-two-rooms key rounds roll contractor block right out i xs ys zs m w =
+    refused key rounds roll contractor block right out i zs
+    (revoked-in-two-rooms key rounds (rollOf roll) contractor block right out (issued key rounds roll contractor block right out i)
+    (is-roll roll (i .roll-bytes) (long key rounds roll contractor block right out i)) xs ys zs m w)
+
+pub calls-revoke-something : CallsRevokeSomething
+unfolding CallsRevokeSomething bytesAfter called enterCallRoll first written answered rollOf countsOf rollBytes countsBytes countOf inStanding counted
+    enteredRoll
+calls-revoke-something = (
+  record {
+    key-bytes = zeros-small (lit< tt) 12;
+    roll-bytes = after-holds (enter 7 ∷ []) (replicate rollLength 0) (zeros-small (lit< tt) rollLength) refl .small;
+    block-small = lit< tt;
+    number = refl;
+  },
+  here refl,
+)

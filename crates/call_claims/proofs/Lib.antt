@@ -1,0 +1,4 @@
+pub mod Codes
+pub mod Opens
+pub mod Stored
+pub mod Claims

@@ -1,0 +1,118 @@
+-- The C call's number: that it is the check's on the roll that is read, that no answer is 0, and when it is one of a grant that opens.
+use mathlib.Core.Path.{_≡_, refl, sym, ap, ap₂, _∙_, subst⁻¹}
+use mathlib.Core.Bool.{Bool, true, false, cond, _&&_}
+use mathlib.Core.List.{List, _++_}
+use Prim.Native.Nat.{ℕ, _+_, _*_, _≤_, _<_}
+use native.Mathlib.Omega.{arith}
+use lib.Dec.{eqb}
+use lib.ListN.{length}
+use borrow.Author.Tests.{eqb-true, eqb-false, eq-eqb}
+use Rattle.basics.specs.Bytes.{AreBytes}
+use Rattle.basics.proofs.Tests.{and-first, and-second}
+use Rattle.refusal.specs.Tries.{first, answered}
+use Rattle.refusal.proofs.Tries.{none-given}
+use Rattle.refusal.proofs.Ladder.{all-pass, ordered, first-small}
+use Rattle.refusal.proofs.Answers.{answer-done}
+use Rattle.roll.specs.declared.Roll.{Roll}
+use Rattle.roll.specs.Roll.{rollLength, rollOf}
+use Rattle.roll.proofs.Contractors.{a-contractor}
+use Rattle.grant.specs.Grants.{contractorIn, rightIn}
+use Rattle.grant.specs.Calls.{inputTries, openedGrant, plainTries, countNow, checkTries, checkNumber, checkContractor, checkRight}
+use Rattle.grant.proofs.Tests.{a-grant}
+use Rattle.revocation.specs.Claims.{Opening, Accepted, OpensExactlyWhen}
+use Rattle.revocation.proofs.Claims.{opens-exactly-when}
+use Rattle.check_call.specs.CheckCall.{callTries, callCode}
+use Rattle.check_call.proofs.Codes.{parts}
+use Rattle.call_claims.specs.Claims.{CallOrdered, checkCode}
+
+-- ---- numbers that stand for an answer
+answer-some : (n x : ℕ) → (n ≡ 0 → 1 ≤ x) → 1 ≤ answered n x n
+unfolding answered
+answer-some n x h = by (eqb n 0) refl
+  where
+    by : (b : Bool) → eqb n 0 ≡ b → 1 ≤ cond b x n
+    by true e = h (eqb-true n 0 e)
+    by false e = omega (arith, eqb-false n 0 e)
+
+accepted-above : (n x : ℕ) → n < 1000 → 1000 ≤ answered n x n → n ≡ 0
+unfolding answered
+accepted-above n x l h = by (eqb n 0) refl h
+  where
+    by : (b : Bool) → eqb n 0 ≡ b → 1000 ≤ cond b x n → n ≡ 0
+    by true e h = eqb-true n 0 e
+    by false e h = let z : ⊥ = omega arith in absurd z
+
+-- an accepted check answers with a contractor, 1 to 200
+pub checked-contractor : (key : List ℕ) (rounds : ℕ) (roll : Roll) (grant : List ℕ) (block right : ℕ)
+    → checkNumber key rounds roll grant block right ≡ 0
+    → (1 ≤ checkContractor key rounds roll grant block right) × (checkContractor key rounds roll grant block right ≤ 200)
+unfolding checkContractor
+checked-contractor key rounds roll grant block right e =
+    let p = openedGrant key rounds grant in
+    let ts = checkTries key rounds roll grant block right in
+    let c = a-contractor (contractorIn p) (a-grant p (all-pass ts refl e .1 .1 .1 .1 .0) .contractor) in
+    let z = answer-done ts (contractorIn p) 0 e in
+    (subst⁻¹ (λ (n : ℕ). 1 ≤ n) (sym z) (c .least), subst⁻¹ (λ (n : ℕ). n ≤ 200) (sym z) (c .most))
+
+module _ (key : List ℕ) (rounds : ℕ) (roll grant : List ℕ) (block right : ℕ) where
+  pub in-order : CallOrdered key rounds roll grant block right
+  unfolding callCode
+  in-order = record { tries = ordered (callTries key rounds roll grant block right) refl; code = refl }
+
+  -- the number, where the test of the roll's length gives b
+  numbered-as : Bool → ℕ
+  numbered-as b =
+      first (inputTries (length key) rounds (b && eqb (length grant) 12) right
+      ++ plainTries (openedGrant key rounds grant) (countNow key rounds (rollOf roll) grant) block right)
+
+  pub is-check : length roll ≡ rollLength → callCode key rounds roll grant block right ≡ checkCode key rounds (rollOf roll) grant block right
+  unfolding callCode checkContractor checkRight numbered-as
+  is-check l =
+      let p = openedGrant key rounds grant in
+      ap (λ (b : Bool). answered (numbered-as b) (1000 * rightIn p + contractorIn p) (numbered-as b)) (eq-eqb (length roll) rollLength l)
+      ∙ sym (parts (checkNumber key rounds (rollOf roll) grant block right) (rightIn p) (contractorIn p))
+
+  pub never-zero : 1 ≤ callCode key rounds roll grant block right
+  unfolding callCode
+  never-zero =
+      let p = openedGrant key rounds grant in
+      let ts = callTries key rounds roll grant block right in
+      answer-some (first ts) (1000 * rightIn p + contractorIn p)
+      (λ e. omega (arith, a-contractor (contractorIn p) (a-grant p (all-pass ts refl e .1 .1 .1 .1 .0) .contractor) .least))
+
+  -- a number of 1,000 or more: the check was not refused
+  pub call-passed : 1000 ≤ callCode key rounds roll grant block right → (length roll ≡ rollLength)
+      × (checkNumber key rounds (rollOf roll) grant block right ≡ 0)
+  unfolding callCode
+  call-passed h =
+      let ts = callTries key rounds roll grant block right in
+      let t = all-pass ts refl (accepted-above (first ts) _ (first-small 1000 ts refl) h) in
+      let l = eqb (length roll) rollLength in
+      let g = eqb (length grant) 12 in (
+        eqb-true (length roll) rollLength (and-first l g (t .1 .1 .0)),
+        none-given (checkTries key rounds (rollOf roll) grant block right) (t .0, (t .1 .0, (and-second l g (t .1 .1 .0), t .1 .1 .1))),
+      )
+
+  -- and what it answered is the call's number
+  pub call-given : length roll ≡ rollLength → (c : ℕ) → Accepted key rounds (rollOf roll) grant block right c
+      → callCode key rounds roll grant block right ≡ 1000 * right + c
+  call-given l c a =
+      let r = checkRight key rounds (rollOf roll) grant block right in
+      let n = checkContractor key rounds (rollOf roll) grant block right in
+      is-check l
+      ∙ sym (answer-done (checkTries key rounds (rollOf roll) grant block right) (1000 * r + n) (checkNumber key rounds (rollOf roll) grant block right)
+      (a .number))
+      ∙ ap₂ (λ (x y : ℕ). 1000 * x + y) (a .answers-right) (a .answers-contractor)
+
+module _ (key : List ℕ) (hk : AreBytes key) (rounds : ℕ) (roll grant : List ℕ) (hg : AreBytes grant) (block : ℕ) (few : block < 4294967296)
+    (right : ℕ) where
+  pub call-opening : 1000 ≤ callCode key rounds roll grant block right → (length roll ≡ rollLength) × Opening key rounds (rollOf roll) grant block right
+  unfolding OpensExactlyWhen
+  call-opening h =
+      let w = call-passed key rounds roll grant block right h in (w .0, opens-exactly-when key hk rounds (rollOf roll) grant hg block few right .0 (w .1))
+
+  pub call-accepted : length roll ≡ rollLength → (o : Opening key rounds (rollOf roll) grant block right)
+      → callCode key rounds roll grant block right ≡ 1000 * right + o .contractor
+  unfolding OpensExactlyWhen
+  call-accepted l o =
+      call-given key rounds roll grant block right l (o .contractor) (opens-exactly-when key hk rounds (rollOf roll) grant hg block few right .1 o)

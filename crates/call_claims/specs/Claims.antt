@@ -1,0 +1,115 @@
+-- What is claimed of the C calls: of the check's number, and of a store through lists of calls. A term of each type stands in
+-- proofs/Claims.antt.
+use mathlib.Core.Logic.{_⊎_}
+use mathlib.Core.Path.{_≡_}
+use mathlib.Core.List.{List, [], _∷_}
+use Prim.Native.Nat.{ℕ, _+_, _*_, _≤_, _<_}
+use lib.ListN.{length, replicate}
+use Rattle.basics.specs.Bytes.{AreBytes}
+use Rattle.refusal.specs.Tries.{first, answered}
+use Rattle.refusal.specs.Claims.{Ordered}
+use Rattle.roll.specs.declared.Roll.{Roll}
+use Rattle.roll.specs.Roll.{rollLength, rollOf}
+use Rattle.histories.specs.Histories.{Change, enter, withdraw, rollAfter, Withdraws, Merge}
+use Rattle.grant.specs.declared.Verdict.{Verdict}
+use Rattle.grant.specs.declared.Verdict.the-variants.{Opens, Refused}
+use Rattle.grant.specs.Grants.{contractorIn, rightIn, verdictNumber, verdictContractor}
+use Rattle.grant.specs.Calls.{openedGrant, checkNumber, checkContractor, checkRight}
+use Rattle.revocation.specs.Claims.{Opening}
+use Rattle.check_call.specs.CheckCall.{verdictCode, callTries, callCode}
+use Rattle.call_claims.specs.CallHistories.{bytesAfter, CallWithdrawn, CallIssued, grantGiven}
+
+-- ---- the check's number
+-- a verdict whose contractor, if it has one, is numbered 1 to 200
+abbrev pub OfContractor : Verdict → Type 0
+OfContractor (Opens g) = (1 ≤ g .contractor) × (g .contractor ≤ 200)
+OfContractor (Refused r) = Unit {0}
+
+-- no two such verdicts give the same number
+unfoldable pub CodesTellVerdicts : Type 0
+CodesTellVerdicts = (v w : Verdict) → OfContractor v → OfContractor w → verdictCode v ≡ verdictCode w → v ≡ w
+
+-- and every verdict that a check's contract allows is one
+unfoldable pub ChecksNameContractors : Type 0
+ChecksNameContractors = (key : List ℕ) (rounds : ℕ) (roll : Roll) (grant : List ℕ) (block right : ℕ)
+    → (v : Verdict) → verdictNumber v ≡ checkNumber key rounds roll grant block right
+    → verdictContractor v ≡ checkContractor key rounds roll grant block right
+    → OfContractor v
+
+-- the C call gives the first reason of its order line that holds, and where none does, right and contractor
+pub record CallOrdered (key : List ℕ) (rounds : ℕ) (roll grant : List ℕ) (block right : ℕ) : Type 0 where
+  pub tries : Ordered (callTries key rounds roll grant block right)
+  pub code : callCode key rounds roll grant block right
+      ≡ answered (first (callTries key rounds roll grant block right))
+      (1000 * rightIn (openedGrant key rounds grant) + contractorIn (openedGrant key rounds grant))
+      (first (callTries key rounds roll grant block right))
+
+unfoldable pub CallInOrder : Type 0
+CallInOrder = (key : List ℕ) (rounds : ℕ) (roll grant : List ℕ) (block right : ℕ) → CallOrdered key rounds roll grant block right
+
+-- the C call opens, with a number of 1,000 or more, exactly when the bytes are a roll's and the grant opens on the roll read from them
+unfoldable pub CallOpensExactlyWhen : Type 0
+CallOpensExactlyWhen = (key : List ℕ) → AreBytes key → (rounds : ℕ) (roll grant : List ℕ) → AreBytes grant
+    → (block : ℕ) → block < 4294967296 → (right : ℕ)
+    → (1000 ≤ callCode key rounds roll grant block right → (length roll ≡ rollLength) × Opening key rounds (rollOf roll) grant block right)
+    × (length roll ≡ rollLength → (o : Opening key rounds (rollOf roll) grant block right)
+    → callCode key rounds roll grant block right ≡ 1000 * right + o .contractor)
+
+-- every answer of the C call is 1 or more: a refusal is a number from 1 to 999, never 0
+unfoldable pub CallNeverZero : Type 0
+CallNeverZero = (key : List ℕ) (rounds : ℕ) (roll grant : List ℕ) (block right : ℕ) → 1 ≤ callCode key rounds roll grant block right
+
+-- on a roll's bytes the C call is the check on the roll that is read from them: the refusal number, or 1,000 times the right plus the contractor
+abbrev pub checkCode : List ℕ → ℕ → Roll → List ℕ → ℕ → ℕ → ℕ
+checkCode key rounds roll grant block right =
+    answered (checkNumber key rounds roll grant block right)
+    (1000 * checkRight key rounds roll grant block right + checkContractor key rounds roll grant block right)
+    (checkNumber key rounds roll grant block right)
+
+unfoldable pub CallIsCheck : Type 0
+CallIsCheck = (key : List ℕ) (rounds : ℕ) (roll grant : List ℕ) (block right : ℕ) → length roll ≡ rollLength
+    → callCode key rounds roll grant block right ≡ checkCode key rounds (rollOf roll) grant block right
+
+-- ---- a store through its C calls
+-- bytes that hold a roll
+pub record Holds (bytes : List ℕ) (roll : Roll) : Type 0 where
+  pub small : AreBytes bytes
+  pub long : length bytes ≡ rollLength
+  pub read : rollOf bytes ≡ roll
+
+-- calls on the bytes are calls on the roll that they hold
+unfoldable pub BytesFollowRoll : Type 0
+BytesFollowRoll = (bytes : List ℕ) → AreBytes bytes → length bytes ≡ rollLength → (hs : List Change)
+    → Holds (bytesAfter hs bytes) (rollAfter hs (rollOf bytes))
+
+-- a grant that was issued opens on the same roll: the answer is 1,000 times the right plus the contractor
+unfoldable pub CallIssuedOpens : Type 0
+CallIssuedOpens = (key : List ℕ) (rounds : ℕ) (roll : List ℕ) (contractor block right : ℕ) (out : List ℕ)
+    → CallIssued key rounds roll contractor block right out
+    → callCode key rounds roll (grantGiven key rounds roll contractor block right out) block right ≡ 1000 * right + contractor
+
+-- gordzila_check answers with a refusal, a number from 1 to 999, whatever size block and right are asked for
+abbrev pub Refuses : List ℕ → ℕ → List ℕ → List ℕ → Type 0
+Refuses key rounds roll grant = (block right : ℕ)
+    → (1 ≤ callCode key rounds roll grant block right) × (callCode key rounds roll grant block right ≤ 999)
+
+-- whatever is entered and withdrawn: once a gordzila_withdraw of its contractor has answered 0, the grant is refused, under the key and round
+-- count that it was issued with
+unfoldable pub CallsRevoke : Type 0
+CallsRevoke = (key : List ℕ) (rounds : ℕ) (roll : List ℕ) (contractor block right : ℕ) (out : List ℕ)
+    → CallIssued key rounds roll contractor block right out
+    → (hs : List Change) → CallWithdrawn contractor hs roll
+    → Refuses key rounds (bytesAfter hs roll) (grantGiven key rounds roll contractor block right out)
+
+-- and so for two rooms, in whatever order their calls arrive, once either has called gordzila_withdraw of its contractor, whatever it answered
+unfoldable pub CallsRevokeInTwoRooms : Type 0
+CallsRevokeInTwoRooms = (key : List ℕ) (rounds : ℕ) (roll : List ℕ) (contractor block right : ℕ) (out : List ℕ)
+    → CallIssued key rounds roll contractor block right out
+    → (xs ys zs : List Change) → Merge xs ys zs → Withdraws contractor xs ⊎ Withdraws contractor ys
+    → Refuses key rounds (bytesAfter zs roll) (grantGiven key rounds roll contractor block right out)
+
+-- there are such calls: on zeros, contractor 7 is entered, gets a grant, and is withdrawn
+unfoldable pub CallsRevokeSomething : Type 0
+CallsRevokeSomething =
+    CallIssued (replicate 12 0) 10 (bytesAfter (enter 7 ∷ []) (replicate rollLength 0)) 7 300 2 (replicate 12 0)
+    × CallWithdrawn 7 (withdraw 7 ∷ []) (bytesAfter (enter 7 ∷ []) (replicate rollLength 0))

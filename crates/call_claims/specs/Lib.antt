@@ -1,0 +1,2 @@
+pub mod CallHistories
+pub mod Claims

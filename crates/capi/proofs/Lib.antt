@@ -1,4 +1,0 @@
-pub mod Calls
-pub mod Hosts
-pub mod Opens
-pub mod Claims

@@ -1,3 +1,0 @@
-pub mod Codes
-pub mod Hosts
-pub mod Claims

@@ -1,0 +1,94 @@
+"""What the scripts of the stored outputs share: document 01's table and rules, the orders of tools/orders.txt, and how the rows of numbers
+on which a test program makes its calls are chosen.
+
+A row has a number for each input of a call. It is made from a row for which no reason holds by changing some of its numbers, so that a
+reason holds, or two do, or a number lies at a limit. The test programs read the rows (crates/*/stdin).
+"""
+import itertools
+import pathlib
+import sys
+
+# key bytes: least and most rounds
+ROUNDS = {12: (10, 11), 18: (14, 17), 24: (18, 23)}
+
+
+def orders():
+    """The order of each call by value, from tools/orders.txt."""
+    found = {}
+    for line in pathlib.Path(__file__).with_name("orders.txt").read_text(encoding="utf-8").splitlines():
+        if line and not line.startswith("#"):
+            name, by_value, _ = (part.strip() for part in line.split("|"))
+            if by_value != "-":
+                found[name] = [int(number) for number in by_value.split()]
+    return found
+
+
+ORDERS = orders()
+
+
+def first(call, holds):
+    """The number of the first of a call's reasons that holds, or 0; holds says of each of them whether it does."""
+    if sorted(ORDERS[call]) != sorted(holds):
+        raise ValueError(f"{call} has the reasons {ORDERS[call]} in tools/orders.txt, and {[*holds]} here")
+    return next((number for number in ORDERS[call] if holds[number]), 0)
+
+
+def wrong_key(key):
+    return key not in ROUNDS
+
+
+def wrong_rounds(key, rounds):
+    """Outside the row of the table; for a key that has none, outside every row."""
+    rows = [ROUNDS[key]] if key in ROUNDS else ROUNDS.values()
+    return not any(least <= rounds <= most for least, most in rows)
+
+
+def wrong_stage(key, stage):
+    """No stage of a key of that length; for a key of a wrong one, of no key at all."""
+    return stage >= (key if key in ROUNDS else max(ROUNDS))
+
+
+def stands(count):
+    return count % 2 == 1 and count < 65535
+
+
+def rows(right, reasons, faults, limits):
+    """The right row; a row for each fault, and one for each two that can be made together; and the rows at the limits. No row twice.
+
+    A row is given, and a fault or a limit described, by the inputs' names and numbers; reasons says which reasons hold of a row.
+    """
+    if set(faults) != set(reasons(**right)) or any(reasons(**right).values()):
+        raise ValueError(f"faults for {[*faults]}, and in the right row {reasons(**right)}")
+    chosen = [right]
+    for reason in sorted(faults):
+        chosen.append({**right, **faults[reason]})
+        if not reasons(**chosen[-1])[reason]:
+            raise ValueError(f"the fault for {reason} does not make it hold")
+    for one, other in itertools.combinations(sorted(faults), 2):
+        both = {**right, **faults[one], **faults[other]}
+        held = reasons(**both)
+        if held[one] and held[other]:
+            chosen.append(both)
+    return distinct(chosen + [{**right, **limit} for limit in limits])
+
+
+def distinct(chosen):
+    return [dict(row) for row in dict.fromkeys(tuple(row.items()) for row in chosen)]
+
+
+def at(name, *numbers):
+    """Rows in which one input has one of some numbers."""
+    return [{name: number} for number in numbers]
+
+
+def run(calls):
+    """Prints what a test program has to print, or with the word `rows` what it has to read: how many rows there are, and the rows, each with
+    the place of its call among these before its numbers.
+
+    A call has its rows, and the line that the program prints for one.
+    """
+    if sys.argv[1:] == ["rows"]:
+        print(sum(len(table) for table, _ in calls))
+    for place, (table, line) in enumerate(calls, 1):
+        for row in table:
+            print(*((place, *row.values()) if sys.argv[1:] == ["rows"] else line(**row)))
