@@ -7,7 +7,7 @@
 # make hosts  the static library and the programs over it, built and run
 # make bench  times, side by side with plain C, the independent program and other ciphers; no test
 
-.PHONY: run library install test reading vectors reference hosts bench
+.PHONY: run library install test checks reading vectors reference hosts bench
 
 PREFIX ?= /usr/local
 
@@ -15,6 +15,7 @@ run:
 	tools/run
 
 library:
+	rt check capi
 	rt staticlib capi
 
 install:
@@ -22,10 +23,14 @@ install:
 
 test:
 	tools/setup
-	$(MAKE) --no-print-directory reference
+	$(MAKE) --no-print-directory -j 2 reference checks
 	tools/vectors check
 	tools/known-answers
 	tools/known-answers --shams
+	tools/gate
+
+# Checks of sources and documents that need neither the prover nor the independent program.
+checks:
 	tools/check-docs
 	tools/check-docs --shams
 	tools/reading --check
@@ -34,10 +39,9 @@ test:
 	tools/check-crates --shams
 	tools/check-edits
 	rt fmt --check
-	tools/gate
 
 reference:
-	cd reference && cargo test --release --offline --quiet
+	+cd reference && cargo test --release --offline --quiet
 
 reading:
 	tools/reading
@@ -49,6 +53,5 @@ hosts:
 	tools/hosts
 
 # The proved library beside plain C, the independent program and other ciphers, in one run.
-bench:
-	rt staticlib capi
+bench: library
 	cd bench && cargo run --release --offline

@@ -14,9 +14,13 @@ CALLS = {
     "cipher": ["encipher", "decipher"],
     "lists": ["prepare"],
     "engine": ["run"],
-    "holder": ["make", "forward", "back", "walk", "subkey", "straight"],
-    "roll": ["empty", "enter", "withdraw"],
-    "grant": ["issue", "check"],
+    "holder_from_key": ["make", "straight"],
+    "holder_steps": ["forward", "back", "subkey"],
+    "holder_walk": ["walk"],
+    "roll": ["empty"],
+    "roll_changes": ["enter", "withdraw"],
+    "issuing": ["issue"],
+    "checking": ["check"],
 }
 
 # A function: what stands before its name on the line, its name, the words of its contract's clauses, the comment above it, and its signature
@@ -44,6 +48,7 @@ def copied(room):
     """A copy of what the tools look at."""
     for part in ("crates", "docs", "include", "hosts", "tools", "reference"):
         shutil.copytree(HERE / part, room / part, ignore=shutil.ignore_patterns("target"))
+    shutil.copy(HERE / "README.md", room)
     return room
 
 

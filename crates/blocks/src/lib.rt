@@ -3,8 +3,8 @@
 ghost use mathlib.Core.Path.{_≡_};
 ghost use mathlib.Core.List.{_++_};
 ghost use Prim.Native.Nat.{_+_, _≤_};
-ghost use lib.ListN.{length, take, drop};
-ghost use Rattle.blocks.specs.Blocks.{stateOf, bytesOf};
+ghost use lib.ListN.{length, getD, take, drop, set};
+ghost use Rattle.block_bytes.specs.Blocks.{stateOf, bytesOf};
 
 pub fn state_of(b: &[u8]) -> [[u8; 3]; 4]
     requires { ⌜ 12 ≤ length (now b) ⌝ }
@@ -18,22 +18,24 @@ pub fn state_of(b: &[u8]) -> [[u8; 3]; 4]
     ]
 }
 
+// A column put at a place of a lent slice.
+fn put_column(out: &mut [u8], at: usize, c: [u8; 3])
+    requires { ⌜ at + 3 ≤ length (now out) ⌝ }
+    ensures { λ _. ⌜ now (out .exit) ≡ set (set (set (now (out .entry)) at (getD c 0 0)) (at + 1) (getD c 1 0)) (at + 2) (getD c 2 0) ⌝ }
+{
+    out[at] = c[0];
+    out[at + 1] = c[1];
+    out[at + 2] = c[2];
+}
+
 pub fn write_state(out: &mut [u8], a: [[u8; 3]; 4])
     requires { ⌜ 12 ≤ length (now out) ⌝ }
     ensures { λ _. ⌜ now (out .exit) ≡ bytesOf a ++ drop 12 (now (out .entry)) ⌝ }
 {
-    out[0] = a[0][0];
-    out[1] = a[0][1];
-    out[2] = a[0][2];
-    out[3] = a[1][0];
-    out[4] = a[1][1];
-    out[5] = a[1][2];
-    out[6] = a[2][0];
-    out[7] = a[2][1];
-    out[8] = a[2][2];
-    out[9] = a[3][0];
-    out[10] = a[3][1];
-    out[11] = a[3][2];
+    put_column(out, 0, a[0]);
+    put_column(out, 3, a[1]);
+    put_column(out, 6, a[2]);
+    put_column(out, 9, a[3]);
 }
 
 // Bytes put at a place of a lent slice.

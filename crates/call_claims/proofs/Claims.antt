@@ -12,15 +12,19 @@ use Rattle.refusal.proofs.Tries.{none-given}
 use Rattle.refusal.proofs.Ladder.{all-pass}
 use Rattle.refusal.proofs.Answers.{starts}
 use Rattle.cipher.specs.Cipher.{cipherBlock}
-use Rattle.roll.specs.Roll.{countOf, inStanding, counted, enteredRoll, countsOf, rollLength, rollOf, countsBytes, rollBytes}
+use Rattle.roll.specs.Roll.{countOf, inStanding, counted}
+use Rattle.roll_changes.specs.Changes.{enteredRoll}
+use Rattle.roll_bytes.specs.RollBytes.{countsOf, rollLength, rollOf, countsBytes, rollBytes}
 use Rattle.histories.specs.Histories.{Change, enter, rollAfter}
 use Rattle.histories.proofs.Counts.{zeros-small}
 use Rattle.grant.specs.declared.Verdict.the-variants.{Opens, Refused}
-use Rattle.grant.specs.Calls.{issueTries, issuedGrant, checkNumber}
+use Rattle.issuing.specs.Issuing.{issueTries, issuedGrant}
+use Rattle.checking.specs.Checking.{checkNumber}
 use Rattle.revocation.specs.Claims.{Issued, OpensNothing, IssuedOpens, RevokedNeverOpens, RevokedInTwoRooms}
 use Rattle.revocation.proofs.Claims.{issued-opens, revoked-never-opens, revoked-in-two-rooms}
 use Rattle.check_call.specs.CheckCall.{callCode}
-use Rattle.roll_calls.specs.RollCalls.{enterCallRoll, issueCallTries, issueCallNumber, issueCallOutput}
+use Rattle.roll_calls.specs.RollCalls.{enterCallRoll}
+use Rattle.issue_call.specs.IssueCall.{issueCallTries, issueCallNumber, issueCallOutput}
 use Rattle.call_claims.specs.CallHistories.{called, bytesAfter, here, CallIssued, grantGiven}
 use Rattle.call_claims.specs.Claims.{CodesTellVerdicts, ChecksNameContractors, CallInOrder, CallOpensExactlyWhen, CallNeverZero, CallIsCheck}
 use Rattle.call_claims.specs.Claims.{Refuses, BytesFollowRoll, CallIssuedOpens, CallsRevoke, CallsRevokeInTwoRooms, CallsRevokeSomething}

@@ -14,10 +14,11 @@ use Rattle.refusal.proofs.Tries.{none-given}
 use Rattle.refusal.proofs.Ladder.{all-pass, ordered, first-small}
 use Rattle.refusal.proofs.Answers.{answer-done}
 use Rattle.roll.specs.declared.Roll.{Roll}
-use Rattle.roll.specs.Roll.{rollLength, rollOf}
+use Rattle.roll_bytes.specs.RollBytes.{rollLength, rollOf}
 use Rattle.roll.proofs.Contractors.{a-contractor}
 use Rattle.grant.specs.Grants.{contractorIn, rightIn}
-use Rattle.grant.specs.Calls.{inputTries, openedGrant, plainTries, countNow, checkTries, checkNumber, checkContractor, checkRight}
+use Rattle.judging.specs.Judging.{inputTries, plainTries}
+use Rattle.checking.specs.Checking.{openedGrant, countNow, checkTries, checkNumber, checkContractor, checkRight}
 use Rattle.grant.proofs.Tests.{a-grant}
 use Rattle.revocation.specs.Claims.{Opening, Accepted, OpensExactlyWhen}
 use Rattle.revocation.proofs.Claims.{opens-exactly-when}

@@ -11,14 +11,16 @@ use Rattle.refusal.specs.Tries.{Try, first, written, answered}
 use Rattle.refusal.proofs.Tries.{first-then}
 use Rattle.basics.specs.Bytes.{AreBytes}
 use Rattle.roll.specs.declared.Roll.{Roll}
-use Rattle.roll.specs.Roll.{countOf, counted, enterTries, enteredRoll, withdrawTries, withdrawnRoll, rollLength, rollOf, rollBytes}
-use Rattle.roll.specs.Lemmas.{RollTellsBytes}
-use Rattle.roll.proofs.Lemmas.{roll-tells-bytes}
-use Rattle.roll.proofs.Pairs.{length-counts, counts-small, length-bytes, bytes-small}
+use Rattle.roll.specs.Roll.{countOf, counted}
+use Rattle.roll_changes.specs.Changes.{enterTries, enteredRoll, withdrawTries, withdrawnRoll}
+use Rattle.roll_bytes.specs.RollBytes.{rollLength, rollOf, rollBytes, rollTries}
+use Rattle.roll_bytes.specs.Lemmas.{RollTellsBytes}
+use Rattle.roll_bytes.proofs.Lemmas.{roll-tells-bytes}
+use Rattle.roll_bytes.proofs.Pairs.{length-counts, counts-small, length-bytes, bytes-small}
 use Rattle.histories.specs.Histories.{Change, enter, withdraw, changed, rollAfter, Withdrawn, IsRoll}
 use Rattle.histories.specs.Histories as H
 use Rattle.histories.proofs.Counts.{changed-roll}
-use Rattle.roll_calls.specs.RollCalls.{rollTries, enterCallRoll, withdrawCallRoll}
+use Rattle.roll_calls.specs.RollCalls.{enterCallRoll, withdrawCallRoll}
 use Rattle.call_claims.specs.CallHistories.{called, bytesAfter, CallWithdrawn, here, later}
 use Rattle.call_claims.specs.Claims.{Holds}
 

@@ -6,7 +6,8 @@ use Prim.Native.Nat.{ℕ, _<_}
 use lib.ListN.{take}
 use Rattle.basics.specs.Bytes.{AreBytes}
 use Rattle.histories.specs.Histories.{Change, enter, withdraw}
-use Rattle.roll_calls.specs.RollCalls.{enterCallRoll, withdrawCallNumber, withdrawCallRoll, issueCallNumber, issueCallOutput}
+use Rattle.roll_calls.specs.RollCalls.{enterCallRoll, withdrawCallNumber, withdrawCallRoll}
+use Rattle.issue_call.specs.IssueCall.{issueCallNumber, issueCallOutput}
 
 -- the bytes after gordzila_enter or gordzila_withdraw, and after a list of such calls
 unfoldable pub called : Change → List ℕ → List ℕ

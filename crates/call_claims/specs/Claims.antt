@@ -9,12 +9,12 @@ use Rattle.basics.specs.Bytes.{AreBytes}
 use Rattle.refusal.specs.Tries.{first, answered}
 use Rattle.refusal.specs.Claims.{Ordered}
 use Rattle.roll.specs.declared.Roll.{Roll}
-use Rattle.roll.specs.Roll.{rollLength, rollOf}
+use Rattle.roll_bytes.specs.RollBytes.{rollLength, rollOf}
 use Rattle.histories.specs.Histories.{Change, enter, withdraw, rollAfter, Withdraws, Merge}
 use Rattle.grant.specs.declared.Verdict.{Verdict}
 use Rattle.grant.specs.declared.Verdict.the-variants.{Opens, Refused}
 use Rattle.grant.specs.Grants.{contractorIn, rightIn, verdictNumber, verdictContractor}
-use Rattle.grant.specs.Calls.{openedGrant, checkNumber, checkContractor, checkRight}
+use Rattle.checking.specs.Checking.{openedGrant, checkNumber, checkContractor, checkRight}
 use Rattle.revocation.specs.Claims.{Opening}
 use Rattle.check_call.specs.CheckCall.{verdictCode, callTries, callCode}
 use Rattle.call_claims.specs.CallHistories.{bytesAfter, CallWithdrawn, CallIssued, grantGiven}

@@ -5,12 +5,12 @@ ghost use mathlib.Core.Path.{_≡_};
 ghost use Rattle.engine.specs.Engine.{engineNumber, engineOutput};
 ghost use Rattle.cipher.specs.Cipher.{cipherNumber, cipherOutput};
 ghost use Rattle.lists.specs.Lists.{prepareNumber, prepareOutput};
-ghost use Rattle.lists.specs.declared.Direction.the-variants.{Enciphering, Deciphering};
+ghost use Rattle.key_lists.specs.declared.Direction.the-variants.{Enciphering, Deciphering};
 ghost use Rattle.check_call.specs.CheckCall.{callCode};
 ghost use Rattle.roll_calls.specs.RollCalls.{enterCallNumber, enterCallRoll, withdrawCallNumber, withdrawCallRoll};
-ghost use Rattle.roll_calls.specs.RollCalls.{issueCallNumber, issueCallOutput};
+ghost use Rattle.issue_call.specs.IssueCall.{issueCallNumber, issueCallOutput};
 ghost use Rattle.stage_calls.specs.StageCalls.{stageCallNumber, stageCallOutput, subkeyCallOutput};
-use lists::Direction;
+use key_lists::Direction;
 
 // Enciphers one block.
 #[no_mangle]
@@ -105,7 +105,7 @@ pub extern "C" fn gordzila_issue(
     ensures { λ _. ⌜ now (out .exit) ≡ issueCallOutput (now (key .entry)) rounds (now (roll .entry)) contractor «size_block» right
         (now (out .entry)) ⌝ }
 {
-    roll_calls::issue(key, rounds, roll, contractor, size_block, right, out)
+    issue_call::issue(key, rounds, roll, contractor, size_block, right, out)
 }
 
 // A key's stage n: 24 bytes, with zeros past the key's length.

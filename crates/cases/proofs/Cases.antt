@@ -2,8 +2,8 @@
 use mathlib.Core.Path.{refl}
 use Rattle.field.specs.Field.{times, product, reduced}
 use Rattle.sbox.specs.Sbox.{sbox, tableP, tableQ}
-use Rattle.schedule.specs.Columns.{columns, plus, columnRule}
-use Rattle.schedule.specs.Stages.{moved, linearStep, constant, stage}
+use Rattle.stages.specs.Columns.{columns, plus, columnRule}
+use Rattle.stages.specs.Stages.{moved, linearStep, constant, stage}
 use Rattle.grant.specs.Grants.{plainGrant}
 use Rattle.cases.specs.Cases.{cases, CasesHold}
 

@@ -8,8 +8,8 @@ use Rattle.field.specs.Field.{_⊕_, times, cubeRoot}
 use Rattle.sbox.specs.Sbox.{sbox}
 use Rattle.layers.specs.State.{State}
 use Rattle.layers.specs.Layers.{permuted, diffused}
-use Rattle.schedule.specs.Columns.{columnRule}
-use Rattle.schedule.specs.Stages.{stage}
+use Rattle.stages.specs.Columns.{columnRule}
+use Rattle.stages.specs.Stages.{stage}
 use Rattle.grant.specs.declared.Right.the-variants.{Overwriting}
 use Rattle.grant.specs.Grants.{rightNumber, plainGrant}
 

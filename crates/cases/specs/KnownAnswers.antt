@@ -6,20 +6,26 @@ use mathlib.Core.List.{List, [], _∷_}
 use lib.ListN.{replicate}
 use Rattle.basics.specs.Cases.{Case, _is_, HoldAll, threes, joined}
 use Rattle.sizes.specs.KnownAnswers as S
-use Rattle.blocks.specs.KnownAnswers as B
+use Rattle.block_bytes.specs.KnownAnswers as B
 use Rattle.engine.specs.Engine.{engineNumber}
-use Rattle.schedule.specs.Stages.{stage, closingSum, subkeyOf}
-use Rattle.schedule.specs.KnownAnswers.{keyOf12, keyOf18, keyOf24}
-use Rattle.schedule.specs.KnownAnswers as K
+use Rattle.stages.specs.Stages.{stage, closingSum, subkeyOf}
+use Rattle.stages.specs.KnownAnswers.{keyOf12, keyOf18, keyOf24}
+use Rattle.stages.specs.KnownAnswers as K
 use Rattle.lists.specs.Lists.{prepareNumber}
-use Rattle.lists.specs.KnownAnswers as L
+use Rattle.key_lists.specs.KnownAnswers as L
 use Rattle.cipher.specs.Cipher.{cipherNumber}
 use Rattle.holder.specs.Holder.{blank}
-use Rattle.holder.specs.Calls.{straightNumber, walkNumber}
-use Rattle.holder.specs.KnownAnswers as H
+use Rattle.holder_from_key.specs.FromKey.{straightNumber}
+use Rattle.holder_walk.specs.Walk.{walkNumber}
+use Rattle.holder_walk.specs.KnownAnswers as H
 use Rattle.numbers.specs.KnownAnswers as N
 use Rattle.roll.specs.KnownAnswers as R
+use Rattle.roll_changes.specs.KnownAnswers as RC
+use Rattle.roll_bytes.specs.KnownAnswers as RB
 use Rattle.grant.specs.KnownAnswers as G
+use Rattle.judging.specs.KnownAnswers as J
+use Rattle.issuing.specs.KnownAnswers as I
+use Rattle.checking.specs.KnownAnswers as C
 
 -- the last stage of a key of each size and its subkey, and the closing sums
 unfoldable pub knownAnswers : List Case
@@ -70,7 +76,12 @@ allKnownAnswers =
     ∷ H.knownAnswers
     ∷ N.knownAnswers
     ∷ R.knownAnswers
+    ∷ RC.knownAnswers
+    ∷ RB.knownAnswers
     ∷ G.knownAnswers
+    ∷ J.knownAnswers
+    ∷ I.knownAnswers
+    ∷ C.knownAnswers
     ∷ knownAnswers
     ∷ orderAnswers
     ∷ []

@@ -18,9 +18,9 @@ use Rattle.grant.specs.declared.Right.the-variants.{Reading, Overwriting}
 use Rattle.grant.specs.declared.Verdict.{Verdict}
 use Rattle.grant.specs.declared.Verdict.the-variants.{Opens, Refused}
 use Rattle.grant.specs.Grants.{rightNumber, contractorIn, verdictNumber, verdictContractor, verdictRight}
-use Rattle.grant.specs.Calls.{plainTries}
+use Rattle.judging.specs.Judging.{plainTries}
 use Rattle.grant.proofs.Tests.{a-grant}
-use Rattle.grant.proofs.Verdicts.{Tells}
+use Rattle.judging.proofs.Verdicts.{Tells}
 use Rattle.check_call.specs.CheckCall.{verdictCode}
 
 pub right-most : (r : Right) → rightNumber r ≤ 2

@@ -6,11 +6,12 @@ use lib.Dec.{eqb}
 use lib.ListN.{length}
 use Rattle.refusal.specs.Reasons.{reasonNumber}
 use Rattle.refusal.specs.Tries.{Try, first, answered}
-use Rattle.roll.specs.Roll.{rollLength, rollOf}
+use Rattle.roll_bytes.specs.RollBytes.{rollLength, rollOf}
 use Rattle.grant.specs.declared.Verdict.{Verdict}
 use Rattle.grant.specs.declared.Verdict.the-variants.{Opens, Refused}
 use Rattle.grant.specs.Grants.{rightNumber, contractorIn, rightIn}
-use Rattle.grant.specs.Calls.{inputTries, openedGrant, countNow, plainTries}
+use Rattle.judging.specs.Judging.{inputTries, plainTries}
+use Rattle.checking.specs.Checking.{openedGrant, countNow}
 
 -- a verdict as a number: the refusal number, or 1,000 times the right plus the contractor
 abbrev pub verdictCode : Verdict → ℕ

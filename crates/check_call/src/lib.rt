@@ -4,7 +4,7 @@ ghost use mathlib.Core.Path.{_≡_};
 ghost use mathlib.Core.Bool.{_&&_};
 ghost use Prim.Native.Nat.{_≤_};
 ghost use lib.Dec.{eqb};
-ghost use Rattle.roll.specs.Roll.{rollLength};
+ghost use Rattle.roll_bytes.specs.RollBytes.{rollLength};
 ghost use Rattle.grant.specs.Grants.{rightNumber, verdictContractor};
 ghost use Rattle.check_call.specs.CheckCall.{verdictCode, callCode};
 use grant::Right;
@@ -37,14 +37,14 @@ fn verdict_code(verdict: Verdict) -> u32
 fn are_lengths(roll: usize, grant: usize) -> bool
     ensures { λ r. ⌜ r ≡ (eqb roll rollLength && eqb grant 12) ⌝ }
 {
-    basics::both(roll == roll::ROLL_BYTES, grant == 12)
+    basics::both(roll == roll_bytes::ROLL_BYTES, grant == 12)
 }
 
 // Checks a grant for one size block and one right: the refusal number, or 1,000 times the right plus the contractor.
 pub fn check(key: &[u8], rounds: u32, roll: &[u8], grant: &[u8], size_block: u32, right: u32) -> u32
     ensures { λ r. ⌜ r ≡ callCode (now (key .entry)) rounds (now (roll .entry)) (now (grant .entry)) «size_block» right ⌝ }
 {
-    let tried = grant::try_input(
+    let tried = judging::try_input(
         key.len(),
         rounds,
         are_lengths(roll.len(), grant.len()),
@@ -53,7 +53,7 @@ pub fn check(key: &[u8], rounds: u32, roll: &[u8], grant: &[u8], size_block: u32
     if refusal::is_refused(tried) {
         return refusal::outcome_number(tried);
     }
-    let plain = grant::open(key, rounds, grant);
-    let count = roll::count_in(roll, grant::contractor_in(&plain));
-    verdict_code(grant::judge(&plain, count, size_block, right))
+    let plain = checking::open(key, rounds, grant);
+    let count = roll_bytes::count_in(roll, grant::contractor_in(&plain));
+    verdict_code(judging::judge(&plain, count, size_block, right))
 }

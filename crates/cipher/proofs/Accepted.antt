@@ -5,7 +5,7 @@ use Prim.Native.Nat.{ℕ, _+_, _*_, _%_, _≤_}
 use native.Mathlib.Omega.{arith}
 use lib.Dec.{eqb}
 use borrow.Author.Tests.{le-leb, eq-eqb}
-use Rattle.engine.specs.Engine.{listLength}
+use Rattle.list_rounds.specs.ListRounds.{listLength}
 
 pub accepted : (rounds : ℕ) → 10 ≤ rounds → rounds ≤ 23 → listLength (12 * (rounds + 1)) ≡ true
 accepted rounds l h =

@@ -9,16 +9,16 @@ use Rattle.rounds.specs.Rounds.{enciphered}
 use Rattle.rounds.specs.Claims.{RestoredByList}
 use Rattle.rounds.proofs.Restored.{restored, enciphered-state}
 use Rattle.rounds.proofs.Claims.{restored-by-list}
-use Rattle.blocks.specs.Blocks.{stateOf, bytesOf}
+use Rattle.block_bytes.specs.Blocks.{stateOf, bytesOf}
 use Rattle.engine.specs.Engine.{engineBlock}
-use Rattle.blocks.proofs.RoundTrip.{state-bytes, bytes-state, list-bytes, block-state}
-use Rattle.lists.specs.declared.Direction.{Direction}
-use Rattle.lists.specs.declared.Direction.the-variants.{Enciphering, Deciphering}
-use Rattle.lists.specs.Lists.{listFor, prepared}
-use Rattle.lists.specs.Claims.{Settings}
+use Rattle.block_bytes.proofs.RoundTrip.{state-bytes, bytes-state, list-bytes, block-state}
+use Rattle.key_lists.specs.declared.Direction.{Direction}
+use Rattle.key_lists.specs.declared.Direction.the-variants.{Enciphering, Deciphering}
+use Rattle.key_lists.specs.KeyLists.{listFor, prepared}
+use Rattle.key_lists.specs.Claims.{Settings}
 use Rattle.cipher.specs.Cipher.{cipherBlock}
 use Rattle.cipher.specs.Claims.{IsBlock, DeciphersWhatWasEnciphered, EnciphersWhatWasDeciphered, EngineRunsPrepared}
-use Rattle.lists.proofs.Lists.{allowed, length-for, states-for}
+use Rattle.key_lists.proofs.Lists.{allowed, length-for, states-for}
 
 module _ (key : List ℕ) (rounds : ℕ) (s : Settings key rounds) where
   two : (d : Direction) → 2 ≤ length (listFor d key rounds)

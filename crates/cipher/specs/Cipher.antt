@@ -5,11 +5,11 @@ use Prim.Native.Nat.{ℕ}
 use lib.ListN.{length}
 use Rattle.refusal.specs.Tries.{Try, first, written}
 use Rattle.rounds.specs.Rounds.{enciphered}
-use Rattle.blocks.specs.Blocks.{stateOf, bytesOf}
+use Rattle.block_bytes.specs.Blocks.{stateOf, bytesOf}
 use Rattle.engine.specs.Engine.{blockTries}
 use Rattle.settings.specs.Settings.{settingsTries}
-use Rattle.lists.specs.declared.Direction.{Direction}
-use Rattle.lists.specs.Lists.{listFor}
+use Rattle.key_lists.specs.declared.Direction.{Direction}
+use Rattle.key_lists.specs.KeyLists.{listFor}
 
 -- the order of refusals of enciphering and deciphering a block: 1, 2, then 3, 4
 abbrev pub cipherTries : List ℕ → ℕ → List ℕ → List ℕ → List Try

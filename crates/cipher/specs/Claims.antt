@@ -5,10 +5,10 @@ use Prim.Native.Nat.{ℕ}
 use lib.ListN.{length}
 use Rattle.basics.specs.Bytes.{AreBytes}
 use Rattle.engine.specs.Engine.{engineBlock}
-use Rattle.lists.specs.declared.Direction.{Direction}
-use Rattle.lists.specs.declared.Direction.the-variants.{Enciphering, Deciphering}
-use Rattle.lists.specs.Lists.{prepared}
-use Rattle.lists.specs.Claims.{Settings}
+use Rattle.key_lists.specs.declared.Direction.{Direction}
+use Rattle.key_lists.specs.declared.Direction.the-variants.{Enciphering, Deciphering}
+use Rattle.key_lists.specs.KeyLists.{prepared}
+use Rattle.key_lists.specs.Claims.{Settings}
 use Rattle.cipher.specs.Cipher.{cipherBlock}
 
 -- a block that no call refuses

@@ -4,13 +4,13 @@ ghost use mathlib.Core.Path.{_≡_};
 ghost use lib.ListN.{length};
 ghost use Rattle.refusal.specs.Reasons.{outcomeNumber};
 ghost use Rattle.rounds.specs.Rounds.{enciphered};
-ghost use Rattle.blocks.specs.Blocks.{stateOf};
-ghost use Rattle.lists.specs.Lists.{listFor};
-ghost use Rattle.lists.specs.declared.Direction.the-variants.{Enciphering, Deciphering};
+ghost use Rattle.block_bytes.specs.Blocks.{stateOf};
+ghost use Rattle.key_lists.specs.KeyLists.{listFor};
+ghost use Rattle.key_lists.specs.declared.Direction.the-variants.{Enciphering, Deciphering};
 ghost use Rattle.cipher.specs.Cipher.{cipherNumber, cipherOutput};
 ghost use Rattle.cipher.specs.ForProver.{Runnable};
-use lists::Direction;
-use lists::fill_for;
+use filling::fill_for;
+use key_lists::Direction;
 use refusal::Outcome;
 
 // A block under the key's list for a direction, for a caller that has tried key, round count and block.
@@ -22,7 +22,7 @@ pub fn state_under(direction: Direction, key: &[u8], rounds: u32, block: &[u8]) 
     let mut list = [0u8; 288];
     fill_for(direction, key, count, &mut list);
     let n = 12 * (count + 1);
-    engine::encipher_state(&list[..n], blocks::state_of(block))
+    list_rounds::encipher_state(&list[..n], blocks::state_of(block))
 }
 
 // A block under the list for a direction.

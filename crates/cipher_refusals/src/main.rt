@@ -2,7 +2,7 @@
 // was left alone: all of the output where it refuses, and what lies past the written bytes where it does not. The rows have each reason
 // for refusing alone, each two that can hold together, and both sides of every limit (tools/expected-refusals).
 
-use lists::Direction;
+use key_lists::Direction;
 use refusal::Outcome;
 
 const MARK: u8 = 165;

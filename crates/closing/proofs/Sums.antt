@@ -8,8 +8,8 @@ use lib.Bits.{bitXor}
 use lib.ListN.{length, getD, take, drop, set, List·getD-append}
 use lib.Seq.{length-take-le, take-suc, drop-cons, append-snoc, set-at, getD-at}
 use Rattle.field.specs.Field.{_⊕_}
-use Rattle.schedule.specs.Columns.{cell, plus, padded}
-use Rattle.schedule.proofs.Columns.{cell-fill}
+use Rattle.stages.specs.Columns.{cell, plus, padded}
+use Rattle.stages.proofs.Columns.{cell-fill}
 
 -- byte i of the sum, where the second stage stands in 24 bytes
 pub sum-byte : (t : ℕ) (k a b : List ℕ) (i : ℕ) → b ≡ padded a → length a ≡ 3 * (2 * t) → i < 6 * t

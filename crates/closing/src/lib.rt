@@ -4,8 +4,8 @@ ghost use mathlib.Core.Path.{_≡_};
 ghost use mathlib.Core.List.{_++_};
 ghost use Prim.Native.Nat.{_*_};
 ghost use lib.ListN.{length, drop};
-ghost use Rattle.schedule.specs.Columns.{plus, padded};
-ghost use Rattle.schedule.specs.Stages.{closingSum};
+ghost use Rattle.stages.specs.Columns.{plus, padded};
+ghost use Rattle.stages.specs.Stages.{closingSum};
 ghost use Rattle.sizes.specs.Sizes.{Sized};
 
 // The closing sums for t = 2, 3 and 4, each with zeros past it.

@@ -8,9 +8,9 @@ use native.Mathlib.Omega.{arith}
 use native.Mathlib.Numerals.{add-one}
 use borrow.Author.Tests.{lt-ltb, le-ltb}
 use Rattle.sizes.specs.Sizes.{turn}
-use Rattle.schedule.specs.Columns.{IsStage}
-use Rattle.schedule.specs.Stages.{constant, closingSum}
-use Rattle.schedule.proofs.Stages.{constant-stage, closing-stage}
+use Rattle.stages.specs.Columns.{IsStage}
+use Rattle.stages.specs.Stages.{constant, closingSum}
+use Rattle.stages.proofs.Stages.{constant-stage, closing-stage}
 use Rattle.cycle.specs.Cycle.{following, preceding, addend}
 
 -- ---- the numbers

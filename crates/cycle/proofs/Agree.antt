@@ -4,11 +4,11 @@ use mathlib.Core.List.{List}
 use Prim.Native.Nat.{ℕ}
 use lib.Dec.{lit<}
 use Rattle.field.specs.Field.{_⊕_, cubeRoot}
-use Rattle.schedule.specs.Columns.{cell, ruleByte, columnRule}
-use Rattle.schedule.specs.Stages.{unrotated, inverseStep}
-use Rattle.schedule.proofs.Columns.{fill-path}
-use Rattle.schedule.proofs.Padded.{Agree}
-use Rattle.schedule.proofs.Written.{ruled}
+use Rattle.stages.specs.Columns.{cell, ruleByte, columnRule}
+use Rattle.stages.specs.Stages.{unrotated, inverseStep}
+use Rattle.stages.proofs.Columns.{fill-path}
+use Rattle.stages.proofs.Padded.{Agree}
+use Rattle.stages.proofs.Written.{ruled}
 
 pub inverse-agrees : (n : ℕ) (a b : List ℕ) → Agree n a b → inverseStep n a ≡ inverseStep n b
 unfolding inverseStep columnRule

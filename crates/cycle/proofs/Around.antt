@@ -6,10 +6,10 @@ use Prim.Native.Nat.{ℕ, zero, suc, _-_, _*_, _<_}
 use native.Mathlib.Nat.{eq-or-lt-of-le}
 use native.Mathlib.Omega.{arith}
 use Rattle.sizes.specs.Sizes.{Sized, turn}
-use Rattle.schedule.specs.Columns.{IsStage, plus}
-use Rattle.schedule.specs.Stages.{linearStep, constant, stage, closingSum}
-use Rattle.schedule.proofs.Steps.{plus-stage, inverseStep-stage, inverse-step, step-inverse, plus-undone}
-use Rattle.schedule.proofs.Stages.{stage-stage}
+use Rattle.stages.specs.Columns.{IsStage, plus}
+use Rattle.stages.specs.Stages.{linearStep, constant, stage, closingSum}
+use Rattle.stages.proofs.Steps.{plus-stage, inverseStep-stage, inverse-step, step-inverse, plus-undone}
+use Rattle.stages.proofs.Stages.{stage-stage}
 use Rattle.period.proofs.Closing.{closed}
 use Rattle.cycle.specs.Cycle.{following, preceding, addend, stageAfter, stageBefore}
 use Rattle.cycle.proofs.Addends.{following-on, following-last, preceding-below, back-on, on-back, addend-on, addend-last, addend-stage}

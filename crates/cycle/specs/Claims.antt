@@ -3,8 +3,8 @@ use mathlib.Core.Path.{_≡_}
 use mathlib.Core.List.{List}
 use Prim.Native.Nat.{ℕ, _*_, _<_}
 use Rattle.sizes.specs.Sizes.{Sized, turn}
-use Rattle.schedule.specs.Columns.{IsStage}
-use Rattle.schedule.specs.Stages.{stage}
+use Rattle.stages.specs.Columns.{IsStage}
+use Rattle.stages.specs.Stages.{stage}
 use Rattle.cycle.specs.Cycle.{following, preceding, stageAfter, stageBefore}
 
 -- on every stage of 2t columns and at every number, a step back undoes a step forward, and the other way round

@@ -5,8 +5,8 @@ use mathlib.Core.List.{List}
 use Prim.Native.Nat.{ℕ, zero, suc, _-_, _*_}
 use lib.Dec.{ltb}
 use Rattle.sizes.specs.Sizes.{turn}
-use Rattle.schedule.specs.Columns.{plus}
-use Rattle.schedule.specs.Stages.{linearStep, inverseStep, constant, closingSum}
+use Rattle.stages.specs.Columns.{plus}
+use Rattle.stages.specs.Stages.{linearStep, inverseStep, constant, closingSum}
 
 -- the number after s, and the number before it
 unfoldable pub following : ℕ → ℕ → ℕ

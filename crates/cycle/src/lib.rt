@@ -5,7 +5,7 @@ ghost use mathlib.Core.Path.{_≡_};
 ghost use mathlib.Core.List.{_++_};
 ghost use Prim.Native.Nat.{_*_, _<_};
 ghost use lib.ListN.{length, drop};
-ghost use Rattle.schedule.specs.Columns.{plus};
+ghost use Rattle.stages.specs.Columns.{plus};
 ghost use Rattle.sizes.specs.Sizes.{turn, Sized};
 ghost use Rattle.cycle.specs.Cycle.{following, preceding, addend, stageAfter, stageBefore};
 use closing::add_closing;
@@ -45,7 +45,7 @@ pub fn stage_after(t: usize, s: usize, k: &mut [u8; 24])
     ensures { λ _. ⌜ now (k .exit) ≡ stageAfter t s (now (k .entry)) ++ drop (6 * t) (now (k .entry)) ⌝ }
 {
     add_addend(t, s, k);
-    schedule::linear_step(t, k);
+    linear::linear_step(t, k);
 }
 
 // The stage before stage s, in the place of stage s.

@@ -16,13 +16,14 @@ use Rattle.layers.specs.State.{State}
 use Rattle.rounds.specs.Rounds.{turned, enciphered, AllStates}
 use Rattle.rounds.proofs.Turned.{turned-states}
 use Rattle.rounds.proofs.Restored.{restored, enciphered-state}
-use Rattle.blocks.specs.Blocks.{stateOf, bytesOf, listStates}
+use Rattle.block_bytes.specs.Blocks.{stateOf, bytesOf, listStates}
 use Rattle.basics.specs.Bytes.{AreBytes}
-use Rattle.blocks.proofs.Lists.{length-states}
-use Rattle.blocks.proofs.RoundTrip.{state-bytes, bytes-state, length-bytes, list-bytes, block-state, listed-states}
-use Rattle.engine.specs.Engine.{listLength, engineTries, engineBlock, engineNumber, engineOutput}
+use Rattle.block_bytes.proofs.Lists.{length-states}
+use Rattle.block_bytes.proofs.RoundTrip.{state-bytes, bytes-state, length-bytes, list-bytes, block-state, listed-states}
+use Rattle.list_rounds.specs.ListRounds.{listLength}
+use Rattle.engine.specs.Engine.{engineTries, engineBlock, engineNumber, engineOutput}
 use Rattle.engine.specs.Claims.{turnedBytes, Restored, EngineRestores}
-use Rattle.engine.proofs.Lists.{whole}
+use Rattle.list_rounds.proofs.Lists.{whole}
 
 -- a part of bytes is bytes
 part-bytes : (n m : ℕ) (xs : List ℕ) → AreBytes xs → AreBytes (take n (drop m xs))

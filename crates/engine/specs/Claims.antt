@@ -4,7 +4,7 @@ use mathlib.Core.List.{List, _++_}
 use Prim.Native.Nat.{ℕ, _≤_}
 use lib.ListN.{length, take, drop}
 use Rattle.rounds.specs.Rounds.{turned}
-use Rattle.blocks.specs.Blocks.{listStates, listBytes}
+use Rattle.block_bytes.specs.Blocks.{listStates, listBytes}
 use Rattle.basics.specs.Bytes.{AreBytes}
 use Rattle.engine.specs.Engine.{engineNumber, engineOutput}
 

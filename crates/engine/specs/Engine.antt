@@ -1,16 +1,12 @@
 -- The engine over lent bytes: document 01, "What the store calls" and "Reasons found in the input".
-use mathlib.Core.Bool.{Bool, _&&_}
 use mathlib.Core.List.{List, [], _∷_}
-use Prim.Native.Nat.{ℕ, _%_}
+use Prim.Native.Nat.{ℕ}
 use lib.Dec.{eqb, leb}
 use lib.ListN.{length}
 use Rattle.refusal.specs.Tries.{Try, _unless_, first, written}
-use Rattle.blocks.specs.Blocks.{stateOf, bytesOf, listStates}
+use Rattle.block_bytes.specs.Blocks.{stateOf, bytesOf, listStates}
 use Rattle.rounds.specs.Rounds.{enciphered}
-
--- 132 to 288 bytes, a multiple of 12: 11 to 24 subkeys
-abbrev pub listLength : ℕ → Bool
-listLength n = leb 132 n && (leb n 288 && eqb (n % 12) 0)
+use Rattle.list_rounds.specs.ListRounds.{listLength}
 
 -- what every call on one block tries last: the block's length, and the room for the block that is written
 abbrev pub blockTries : ℕ → ℕ → List Try

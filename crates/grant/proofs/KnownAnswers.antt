@@ -1,11 +1,9 @@
 -- The known answers: each is computed from the definitions.
 use mathlib.Core.Path.{refl}
 use Rattle.basics.specs.Cases.{Hold}
-use Rattle.refusal.specs.Tries.{first}
-use Rattle.roll.specs.Roll.{emptyRoll, countOf, inStanding}
-use Rattle.grant.specs.Grants.{plainGrant, contractorIn, countIn, sizeBlockIn, isMarked, isGrant}
+use Rattle.grant.specs.Grants.{plainGrant, contractorIn, countIn, sizeBlockIn}
 use Rattle.grant.specs.KnownAnswers.{knownAnswers}
 
 pub known-answers : Hold knownAnswers
-unfolding knownAnswers plainGrant contractorIn countIn sizeBlockIn isMarked isGrant first emptyRoll countOf inStanding
-known-answers = (refl, (refl, (refl, (refl, (refl, (refl, (refl, (refl, (refl, (refl, (refl, (refl, (refl, (refl, (refl, (refl, (refl, tt)))))))))))))))))
+unfolding knownAnswers plainGrant contractorIn countIn sizeBlockIn
+known-answers = (refl, (refl, (refl, tt)))

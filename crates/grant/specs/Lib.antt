@@ -1,4 +1,2 @@
 pub mod Grants
-pub mod Calls
-pub mod ForProver
 pub mod KnownAnswers

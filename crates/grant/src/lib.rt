@@ -1,21 +1,15 @@
-// Grants: issued to a contractor for a size block and a right, and checked before the block is opened.
+// A grant: what it allows, its twelve plain bytes, and what a check of one answers.
 
-mod checking;
-mod issuing;
 mod plain;
 
-pub use checking::check;
-pub use checking::judge;
-pub use checking::open;
-pub use checking::open_prepared;
-pub use checking::try_asked;
-pub use checking::try_input;
-pub use checking::try_standing;
-pub use issuing::issue;
-pub use issuing::try_issue;
-pub use issuing::write_grant;
 pub use plain::contractor_in;
+pub use plain::count_in;
 pub use plain::is_grant;
+pub use plain::is_right;
+pub use plain::plain_grant;
+pub use plain::right_in;
+pub use plain::right_of;
+pub use plain::size_block_in;
 use refusal::Reason;
 
 // What a grant allows.

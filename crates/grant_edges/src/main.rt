@@ -5,8 +5,8 @@
 use grant::Right;
 use grant::Verdict;
 use refusal::Outcome;
-use roll::Changed;
 use roll::Roll;
+use roll_changes::Changed;
 
 const MARK: u8 = 165;
 
@@ -69,14 +69,14 @@ fn enter_line() {
     printing::word(b"enter");
     let roll = echo_roll();
     let c = printing::echo_u32();
-    changed(roll::enter(roll, c));
+    changed(roll_changes::enter(roll, c));
 }
 
 fn withdraw_line() {
     printing::word(b"withdraw");
     let roll = echo_roll();
     let c = printing::echo_u32();
-    changed(roll::withdraw(roll, c));
+    changed(roll_changes::withdraw(roll, c));
 }
 
 // An issue for size block 300.
@@ -90,7 +90,7 @@ fn issue_line() {
     let roll = echo_roll();
     let c = printing::echo_u32();
     let right = printing::echo_u32();
-    let answer = grant::issue(
+    let answer = issuing::issue(
         printing::first(&key, k),
         r,
         roll,
@@ -142,7 +142,7 @@ fn check_line() {
     let roll = echo_roll();
     let plain = echo_plain();
     cipher::encipher(printing::first(&key, 12), 10, &plain, &mut grant);
-    verdict(grant::check(
+    verdict(checking::check(
         printing::first(&key, k),
         r,
         roll,

@@ -4,8 +4,8 @@
 use grant::Right;
 use grant::Verdict;
 use refusal::Outcome;
-use roll::Changed;
 use roll::Roll;
+use roll_changes::Changed;
 
 // What a life is about.
 pub struct Life {
@@ -51,7 +51,7 @@ fn verdict(v: Verdict) {
 }
 
 fn enter_line(l: Life, roll: Roll) -> Roll {
-    let r: Changed = roll::enter(roll, l.contractor);
+    let r: Changed = roll_changes::enter(roll, l.contractor);
     let o = r.outcome;
     let after = r.roll;
     printing::word(b"enter");
@@ -61,7 +61,7 @@ fn enter_line(l: Life, roll: Roll) -> Roll {
 }
 
 fn withdraw_line(l: Life, roll: Roll) -> Roll {
-    let r: Changed = roll::withdraw(roll, l.contractor);
+    let r: Changed = roll_changes::withdraw(roll, l.contractor);
     let o = r.outcome;
     let after = r.roll;
     printing::word(b"withdraw");
@@ -72,7 +72,7 @@ fn withdraw_line(l: Life, roll: Roll) -> Roll {
 
 fn issue_line(key: &[u8], l: Life, roll: Roll) -> [u8; 12] {
     let mut out = [0u8; 12];
-    let o = grant::issue(
+    let o = issuing::issue(
         key,
         l.rounds,
         roll,
@@ -92,7 +92,7 @@ fn issue_line(key: &[u8], l: Life, roll: Roll) -> [u8; 12] {
 
 fn check_line(key: &[u8], l: Life, roll: Roll, grant: [u8; 12]) {
     printing::word(b"check");
-    verdict(grant::check(key, l.rounds, roll, &grant, l.size_block, l.right));
+    verdict(checking::check(key, l.rounds, roll, &grant, l.size_block, l.right));
 }
 
 // The same grant for the next size block, and for the other right.
@@ -100,9 +100,9 @@ fn other_lines(key: &[u8], l: Life, roll: Roll, grant: [u8; 12]) {
     let next = ((l.size_block as u64 + 1) % 4294967296) as u32;
     let other = if l.right == 1 { 2 } else { 1 };
     printing::word(b"check");
-    verdict(grant::check(key, l.rounds, roll, &grant, next, l.right));
+    verdict(checking::check(key, l.rounds, roll, &grant, next, l.right));
     printing::word(b"check");
-    verdict(grant::check(key, l.rounds, roll, &grant, l.size_block, other));
+    verdict(checking::check(key, l.rounds, roll, &grant, l.size_block, other));
 }
 
 // A grant with one bit of one byte changed.
@@ -112,7 +112,7 @@ fn damaged_line(key: &[u8], l: Life, roll: Roll, grant: [u8; 12], at: usize) {
     bytes[p] = bytes[p] ^ 1;
     printing::word(b"damaged");
     number(p as u32);
-    verdict(grant::check(key, l.rounds, roll, &bytes, l.size_block, l.right));
+    verdict(checking::check(key, l.rounds, roll, &bytes, l.size_block, l.right));
 }
 
 fn damaged_lines(key: &[u8], l: Life, roll: Roll, grant: [u8; 12]) {

@@ -1,7 +1,8 @@
 -- A term of each type of specs/Claims.antt.
 use mathlib.Core.Path.{refl, sym, ap, _∙_}
 use Rattle.refusal.proofs.Answers.{answer-refused}
-use Rattle.roll.specs.Roll.{countOf, inStanding, counted, enterTries, enterNumber, enteredRoll, withdrawTries, withdrawNumber, withdrawnRoll}
+use Rattle.roll.specs.Roll.{countOf, inStanding, counted}
+use Rattle.roll_changes.specs.Changes.{enterTries, enterNumber, enteredRoll, withdrawTries, withdrawNumber, withdrawnRoll}
 use Rattle.histories.specs.Claims.{CountsNeverFall, OthersCountsStay, RefusedChangesNothing, CallsCount}
 use Rattle.histories.specs.Claims.{NothingWraps, NobodyComesBack, WithdrawalCounts, WithdrawsCounts}
 use Rattle.histories.proofs.Counts.{entering, withdrawing, after-grows, changed-other, entered-own, withdrawn-own, entered-stands}

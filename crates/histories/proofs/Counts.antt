@@ -13,7 +13,7 @@ use Rattle.refusal.proofs.Ladder.{all-pass}
 use Rattle.refusal.proofs.Answers.{answer-done, answer-either}
 use Rattle.roll.specs.declared.Roll.{Roll}
 use Rattle.roll.specs.Roll.{emptyRoll, isContractor, countOf, inStanding, counted}
-use Rattle.roll.specs.Roll.{enterTries, enterNumber, enteredRoll, withdrawTries, withdrawNumber, withdrawnRoll}
+use Rattle.roll_changes.specs.Changes.{enterTries, enterNumber, enteredRoll, withdrawTries, withdrawNumber, withdrawnRoll}
 use Rattle.roll.proofs.Contractors.{a-contractor, count-is, nobody, a-standing, is-standing}
 use Rattle.histories.specs.Histories.{Change, enter, withdraw, contractorOf, changed, rollAfter, Withdrawn, here, later}
 use Rattle.histories.specs.Histories.{Withdraws, now-asked, asked-later, Merge, left, right, IsRoll}

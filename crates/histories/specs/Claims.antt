@@ -4,7 +4,8 @@ use mathlib.Core.Path.{_≡_}
 use mathlib.Core.List.{List}
 use Prim.Native.Nat.{ℕ, _+_, _≤_, _<_}
 use Rattle.roll.specs.declared.Roll.{Roll}
-use Rattle.roll.specs.Roll.{emptyRoll, isContractor, countOf, inStanding, enterNumber, enteredRoll, withdrawNumber, withdrawnRoll}
+use Rattle.roll.specs.Roll.{emptyRoll, isContractor, countOf, inStanding}
+use Rattle.roll_changes.specs.Changes.{enterNumber, enteredRoll, withdrawNumber, withdrawnRoll}
 use Rattle.histories.specs.Histories.{Change, contractorOf, changed, rollAfter, Withdrawn, Withdraws, IsRoll}
 
 -- counts never fall

@@ -4,7 +4,7 @@ use mathlib.Core.List.{List, [], _∷_}
 use Prim.Native.Nat.{ℕ, _<_}
 use lib.ListN.{length, getD}
 use Rattle.roll.specs.declared.Roll.{Roll}
-use Rattle.roll.specs.Roll.{enteredRoll, withdrawNumber, withdrawnRoll}
+use Rattle.roll_changes.specs.Changes.{enteredRoll, withdrawNumber, withdrawnRoll}
 
 -- a call on the roll, with the contractor it is for
 pub data Change : Type 0 where

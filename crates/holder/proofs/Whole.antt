@@ -1,20 +1,20 @@
 -- Whole holders: what the test says of one, and that steps keep it.
 use mathlib.Core.Path.{_≡_, sym, ap, _∙_}
-use mathlib.Core.Bool.{Bool, true, false, _&&_}
+use mathlib.Core.Bool.{Bool, true, _&&_}
 use mathlib.Core.List.{List, _++_}
-use Prim.Native.Nat.{ℕ, _+_, _*_, _≤_, _<_}
+use Prim.Native.Nat.{ℕ, _+_, _*_, _<_}
 use native.Mathlib.Numerals.{add-one}
 use native.Mathlib.Omega.{arith}
 use lib.Dec.{ltb}
 use lib.ListN.{length, drop}
-use borrow.Author.Tests.{ltb-true, lt-ltb, le-ltb}
+use borrow.Author.Tests.{ltb-true, lt-ltb}
 use Rattle.basics.proofs.Tests.{and-first, and-second}
 use Rattle.sizes.specs.Sizes.{Sized, keyLength, turn}
-use Rattle.schedule.specs.Columns.{padded, columnRule}
-use Rattle.schedule.specs.Stages.{linearStep}
-use Rattle.schedule.proofs.Columns.{length-columns}
+use Rattle.stages.specs.Columns.{padded, columnRule}
+use Rattle.stages.specs.Stages.{linearStep}
+use Rattle.stages.proofs.Columns.{length-columns}
 use Rattle.sizes.proofs.Keys.{a-key}
-use Rattle.schedule.proofs.Padded.{length-plus}
+use Rattle.stages.proofs.Padded.{length-plus}
 use Rattle.basics.specs.Repeated.{repeated}
 use Rattle.cycle.specs.Cycle.{following, preceding, stageAfter, stageBefore}
 use Rattle.cycle.proofs.Addends.{following-below, preceding-below}

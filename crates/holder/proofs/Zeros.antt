@@ -10,7 +10,7 @@ use lib.ListN.{length, getD, drop, replicate, length-drop, drop-of-length-le}
 use lib.Seq.{drop-cons, drop-at}
 use borrow.Author.Tests.{eq-eqb, ne-eqb, eqb-true}
 use Rattle.basics.proofs.Tests.{and-first, and-second}
-use Rattle.schedule.specs.Columns.{padded}
+use Rattle.stages.specs.Columns.{padded}
 use Rattle.holder.specs.Holder.{allZero}
 
 pub zero-next : (bs : List ℕ) (i : ℕ) → i < length bs → getD bs i 0 ≡ 0 → allZero (drop i bs) ≡ allZero (drop (i + 1) bs)

@@ -1,14 +1,13 @@
 -- The key holder: document 01, "Key stages". A holder holds one stage of a key and steps it forward and back (the paper's cyclic key
 -- schedule, computed on the fly). Its record, declared in src/, has the key's length, the stage's number and 24 bytes.
-use mathlib.Core.Bool.{Bool, true, cond, _&&_}
+use mathlib.Core.Bool.{Bool, true, _&&_}
 use mathlib.Core.List.{List, [], _∷_}
-use Prim.Native.Nat.{ℕ, _+_, _-_, _*_, _%_}
-use lib.Dec.{eqb, ltb, leb}
+use Prim.Native.Nat.{ℕ}
+use lib.Dec.{eqb, ltb}
 use lib.ListN.{length, drop, replicate}
 use Rattle.sizes.specs.Sizes.{keyLength, tOf, turn}
-use Rattle.schedule.specs.Columns.{padded}
-use Rattle.schedule.specs.Stages.{stage}
-use Rattle.basics.specs.Repeated.{repeated}
+use Rattle.stages.specs.Columns.{padded}
+use Rattle.stages.specs.Stages.{stage}
 use Rattle.cycle.specs.Cycle.{following, preceding, stageAfter, stageBefore}
 use Rattle.holder.specs.declared.Holder.{Holder}
 use Rattle.holder.specs.declared.Way.{Way}
@@ -54,20 +53,3 @@ backward h = record {
 unfoldable pub stepped : Way → Holder → Holder
 stepped Forward h = onward h
 stepped Back h = backward h
-
--- ---- walks
--- f = (d - s) modulo 6t: the steps forward from stage s to stage d
-abbrev pub stepsForward : ℕ → ℕ → ℕ → ℕ
-stepsForward t s d = (d + (turn t - s)) % turn t
-
--- the distance of two stage numbers around the ring: f steps if f is at most 3t, else 6t - f
-unfoldable pub ringDistance : ℕ → ℕ → ℕ → ℕ
-ringDistance t s d = cond (leb (stepsForward t s d) (3 * t)) (stepsForward t s d) (turn t - stepsForward t s d)
-
--- the direction of that way: forward if f is at most 3t, also for no steps at all, else back
-unfoldable pub wayTo : ℕ → ℕ → ℕ → Way
-wayTo t s d = cond (leb (stepsForward t s d) (3 * t)) Forward Back
-
--- a walk takes that many steps, that way
-unfoldable pub walked : Holder → ℕ → Holder
-walked h d = repeated (ringDistance (tHeld h) (h .number) d) (stepped (wayTo (tHeld h) (h .number) d)) h

@@ -1,3 +1,1 @@
 pub mod Holder
-pub mod Calls
-pub mod KnownAnswers

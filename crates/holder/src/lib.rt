@@ -1,18 +1,13 @@
-// The key holder: one stage of a key, by value, stepped forward and back, walked to a stage, and asked for its subkey.
+// The key holder: one stage of a key, by value; which holders are whole, and steps on them. The calls that answer a holder stand in crates of
+// their own.
 
-mod calls;
-mod stages;
-mod steps;
-
-pub use calls::back;
-pub use calls::forward;
-pub use calls::make;
-pub use calls::straight;
-pub use calls::subkey;
-pub use calls::try_straight;
-pub use calls::walk;
+ghost use mathlib.Core.Path.{_≡_};
+ghost use mathlib.Core.Bool.{true};
+ghost use lib.ListN.{drop};
+ghost use Rattle.basics.specs.Repeated.{repeated};
+ghost use Rattle.holder.specs.Holder.{allZero, whole, stepped};
+use basics::both;
 use refusal::Outcome;
-pub use stages::stage_bytes;
 
 // A key's length, a stage's number and its bytes, with zeros past the key's length.
 pub struct Holder {
@@ -33,16 +28,74 @@ pub struct HolderAnswer {
     pub holder: Holder,
 }
 
-// What a walk answers: the holder, the steps taken and their direction.
-pub struct Walked {
-    pub outcome: Outcome,
-    pub holder: Holder,
-    pub steps: usize,
-    pub way: Way,
+// Every byte from n on is zero.
+fn zeros_from(bytes: &[u8], n: usize) -> bool
+    ensures { λ r. ⌜ r ≡ allZero (drop n (now (bytes .entry))) ⌝ }
+{
+    let mut i = n;
+    while i < bytes.len() {
+        if bytes[i] != 0 {
+            return false;
+        }
+        i += 1;
+    }
+    true
 }
 
-// What a request for the subkey answers.
-pub struct SubkeyAnswer {
-    pub outcome: Outcome,
-    pub subkey: [u8; 12],
+// A holder that is not refused with 24.
+pub fn is_whole(h: Holder) -> bool
+    ensures { λ r. ⌜ r ≡ whole h ⌝ }
+{
+    let length = h.length;
+    let number = h.number;
+    let bytes = h.bytes;
+    let below = number < sizes::turn_of_key(length);
+    both(
+        sizes::is_key_length(length),
+        both(below, zeros_from(&bytes, length)),
+    )
+}
+
+// One step, the way that is told, on a copy of the holder's bytes.
+pub fn step(way: Way, h: Holder) -> Holder
+    requires { ⌜ whole h ≡ true ⌝ }
+    ensures { λ r. ⌜ r ≡ stepped way h ⌝ }
+{
+    let length = h.length;
+    let number = h.number;
+    let t = length / 6;
+    let mut bytes = h.bytes;
+    match way {
+        Way::Forward => {
+            cycle::stage_after(t, number, &mut bytes);
+            Holder {
+                length,
+                number: cycle::number_after(t, number),
+                bytes,
+            }
+        }
+        Way::Back => {
+            cycle::stage_before(t, number, &mut bytes);
+            Holder {
+                length,
+                number: cycle::number_before(t, number),
+                bytes,
+            }
+        }
+    }
+}
+
+// As many steps as told, one after the other.
+pub fn steps(way: Way, count: usize, h: Holder) -> Holder
+    requires { ⌜ whole h ≡ true ⌝ }
+    ensures { λ r. ⌜ r ≡ repeated count (stepped way) h ⌝ }
+{
+    let mut at = h;
+    let mut i: usize = 0;
+    while i < count {
+        let next = step(way, at);
+        at = next;
+        i += 1;
+    }
+    at
 }

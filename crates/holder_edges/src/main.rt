@@ -36,7 +36,7 @@ fn make_line() {
     let key = [7u8; 32];
     printing::word(b"make");
     let k = printing::echo();
-    made(holder::make(printing::first(&key, k)));
+    made(holder_from_key::make(printing::first(&key, k)));
 }
 
 fn straight_line() {
@@ -44,7 +44,7 @@ fn straight_line() {
     printing::word(b"straight");
     let k = printing::echo();
     let n = printing::echo();
-    made(holder::straight(printing::first(&key, k), n));
+    made(holder_from_key::straight(printing::first(&key, k), n));
 }
 
 fn walk_line() {
@@ -53,9 +53,9 @@ fn walk_line() {
     let k = printing::echo();
     let s = printing::echo();
     let d = printing::echo();
-    let from = holder::straight(printing::first(&key, k), s);
+    let from = holder_from_key::straight(printing::first(&key, k), s);
     let start = from.holder;
-    let r = holder::walk(start, d);
+    let r = holder_walk::walk(start, d);
     let o = r.outcome;
     let h = r.holder;
     let w = r.way;
@@ -92,12 +92,12 @@ fn kept(o: Outcome, ok: bool) {
 }
 
 fn step_case(h: Holder) {
-    let f = holder::forward(h);
+    let f = holder_steps::forward(h);
     let fo = f.outcome;
     let fh = f.holder;
     printing::word(b" forward");
     kept(fo, same(h, fh));
-    let b = holder::back(h);
+    let b = holder_steps::back(h);
     let bo = b.outcome;
     let bh = b.holder;
     printing::word(b" back");
@@ -105,7 +105,7 @@ fn step_case(h: Holder) {
 }
 
 fn walk_case(h: Holder, d: usize) {
-    let r = holder::walk(h, d);
+    let r = holder_walk::walk(h, d);
     let o = r.outcome;
     let w = r.way;
     let left = r.holder;
@@ -118,7 +118,7 @@ fn walk_case(h: Holder, d: usize) {
 
 // A refused request for the subkey answers twelve zeros.
 fn subkey_case(h: Holder) {
-    let g = holder::subkey(h);
+    let g = holder_steps::subkey(h);
     let o = g.outcome;
     let k = g.subkey;
     printing::word(b" subkey");

@@ -10,12 +10,12 @@ use lib.ListN.{length, getD, drop}
 use borrow.Author.Tests.{ltb-true, ltb-false}
 use Rattle.field.specs.Field.{_⊕_, cubeRoot}
 use Rattle.layers.specs.State.{column}
-use Rattle.schedule.specs.Columns.{cell, columns, fill, columnRule}
-use Rattle.schedule.specs.Stages.{next, previous, byRow, inverseStep}
-use Rattle.schedule.proofs.Columns.{length-columns}
-use Rattle.schedule.proofs.Places.{next-on, next-around}
-use Rattle.schedule.proofs.Steps.{unrotated-fill}
-use Rattle.schedule.proofs.Written.{put-column, ruled, upto, unwritten, column-put}
+use Rattle.stages.specs.Columns.{cell, columns, fill, columnRule}
+use Rattle.stages.specs.Stages.{next, previous, byRow, inverseStep}
+use Rattle.stages.proofs.Columns.{length-columns}
+use Rattle.stages.proofs.Places.{next-on, next-around}
+use Rattle.stages.proofs.Steps.{unrotated-fill}
+use Rattle.stages.proofs.Written.{put-column, ruled, upto, unwritten, column-put}
 
 -- column j after the column rule with c + 1
 abbrev pub ruledBack : List ℕ → ℕ → List ℕ

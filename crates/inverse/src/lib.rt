@@ -8,8 +8,8 @@ ghost use lib.Dec.{ltb};
 ghost use lib.ListN.{length, drop};
 ghost use Rattle.field.specs.Field.{_⊕_, times, cubeRoot};
 ghost use Rattle.layers.specs.State.{column};
-ghost use Rattle.schedule.specs.Columns.{cell, columnRule};
-ghost use Rattle.schedule.specs.Stages.{inverseStep};
+ghost use Rattle.stages.specs.Columns.{cell, columnRule};
+ghost use Rattle.stages.specs.Stages.{inverseStep};
 ghost use Rattle.sizes.specs.Sizes.{Sized};
 
 // c + 1 times the sum of a column.

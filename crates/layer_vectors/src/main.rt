@@ -26,14 +26,14 @@ fn key_line(a: [[u8; 3]; 4], k: [[u8; 3]; 4]) {
     printing::word(b"sigma ");
     printing::hex_state(a);
     printing::space();
-    layer_line(b"", k, layers::add_key(k, a));
+    layer_line(b"", k, key_addition::add_key(k, a));
 }
 
 // Prints the four lines of a state and a subkey.
 fn layer_lines(a: [[u8; 3]; 4], k: [[u8; 3]; 4]) {
-    layer_line(b"gamma ", a, layers::substitute(a));
-    layer_line(b"pi ", a, layers::permute(a));
-    layer_line(b"theta ", a, layers::diffuse(a));
+    layer_line(b"gamma ", a, substitution::substitute(a));
+    layer_line(b"pi ", a, permutation::permute(a));
+    layer_line(b"theta ", a, diffusion::diffuse(a));
     key_line(a, k);
 }
 

@@ -1,7 +1,6 @@
 -- A term of each type of specs/Lemmas.antt.
 use Rattle.layers.specs.Lemmas.{SubstitutionUndoesItself, PermutationUndoesItself, KeyAdditionUndoesItself}
-use Rattle.layers.specs.Lemmas.{PermutationIsLinear, DiffusionIsLinear, SubstitutionCommutesWithPermutation}
-use Rattle.layers.specs.Lemmas.{LayersGiveStates, ArraysAreStates}
+use Rattle.layers.specs.Lemmas.{PermutationIsLinear, DiffusionIsLinear, SubstitutionCommutesWithPermutation, LayersGiveStates, ArraysAreStates}
 use Rattle.layers.proofs.Layers.{permuted-permuted, substituted-substituted, substituted-permuted, added-added, permuted-added}
 use Rattle.layers.proofs.Layers.{diffused-added, substituted-state, permuted-state, diffused-state, added-state, array-state}
 

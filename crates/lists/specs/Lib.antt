@@ -1,4 +1,1 @@
 pub mod Lists
-pub mod ForProver
-pub mod Claims
-pub mod KnownAnswers

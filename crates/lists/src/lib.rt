@@ -1,84 +1,12 @@
-// Subkey lists in lent bytes, twelve bytes a subkey. The key's stage is carried along; each subkey is written as its stage is reached.
+// Preparing a key's subkey list in lent bytes.
 
 ghost use mathlib.Core.Path.{_≡_};
-ghost use mathlib.Core.Bool.{cond};
-ghost use mathlib.Core.List.{_++_};
-ghost use Prim.Native.Nat.{_+_, _*_};
-ghost use lib.Dec.{ltb};
-ghost use lib.ListN.{length, drop};
 ghost use Rattle.refusal.specs.Reasons.{outcomeNumber};
-ghost use Rattle.layers.specs.Layers.{diffused};
-ghost use Rattle.rounds.specs.Rounds.{turned};
-ghost use Rattle.blocks.specs.Blocks.{listBytes};
-ghost use Rattle.lists.specs.Lists.{subkeys, listFor, prepareNumber, prepareOutput};
-ghost use Rattle.lists.specs.ForProver.{Fits};
-use blocks::write_state;
+ghost use Rattle.lists.specs.Lists.{prepareNumber, prepareOutput};
+use key_lists::Direction;
 use refusal::Outcome;
 use refusal::Reason;
 use refusal::unless;
-
-// Which way a subkey list is to be used.
-pub enum Direction {
-    Enciphering,
-    Deciphering,
-}
-
-// Subkeys 0 to R, from the front.
-fn fill(key: &[u8], rounds: usize, out: &mut [u8])
-    requires { ⌜ Fits (length (now key)) rounds (length (now out)) ⌝ }
-    ensures { λ _. ⌜ now (out .exit) ≡ listBytes (subkeys (now (key .entry)) rounds) ++ drop (12 * (rounds + 1)) (now (out .entry)) ⌝ }
-{
-    let t = key.len() / 6;
-    let mut k = schedule::stage_of_key(key);
-    write_state(out, schedule::subkey(&k));
-    let mut s: usize = 0;
-    while s < rounds {
-        s += 1;
-        schedule::next_stage(t, s, &mut k);
-        let at = 12 * s;
-        write_state(&mut out[at..], schedule::subkey(&k));
-    }
-}
-
-// A subkey of the turned list: diffused, unless it is the key's last, which comes first.
-fn turn_subkey(k: [[u8; 3]; 4], s: usize, rounds: usize) -> [[u8; 3]; 4]
-    ensures { λ r. ⌜ r ≡ cond (ltb s rounds) (diffused k) k ⌝ }
-{
-    if s < rounds {
-        return layers::diffuse(k);
-    }
-    k
-}
-
-// The turned list of subkeys 0 to R, from the back.
-fn fill_turned(key: &[u8], rounds: usize, out: &mut [u8])
-    requires { ⌜ Fits (length (now key)) rounds (length (now out)) ⌝ }
-    ensures { λ _. ⌜ now (out .exit) ≡ listBytes (turned (subkeys (now (key .entry)) rounds)) ++ drop (12 * (rounds + 1)) (now (out .entry)) ⌝ }
-{
-    let t = key.len() / 6;
-    let mut k = schedule::stage_of_key(key);
-    let last = 12 * rounds;
-    write_state(&mut out[last..], schedule::subkey(&k));
-    let mut s: usize = 0;
-    while s < rounds {
-        s += 1;
-        schedule::next_stage(t, s, &mut k);
-        let at = 12 * (rounds - s);
-        let sub = turn_subkey(schedule::subkey(&k), s, rounds);
-        write_state(&mut out[at..], sub);
-    }
-}
-
-// The list for a direction.
-pub fn fill_for(direction: Direction, key: &[u8], rounds: usize, out: &mut [u8])
-    requires { ⌜ Fits (length (now key)) rounds (length (now out)) ⌝ }
-    ensures { λ _. ⌜ now (out .exit) ≡ listBytes (listFor direction (now (key .entry)) rounds) ++ drop (12 * (rounds + 1)) (now (out .entry)) ⌝ }
-{
-    match direction {
-        Direction::Enciphering => fill(key, rounds, out),
-        Direction::Deciphering => fill_turned(key, rounds, out),
-    }
-}
 
 // Prepares the subkey list for a direction: 12(R + 1) bytes.
 pub fn prepare(key: &[u8], rounds: u32, direction: Direction, out: &mut [u8]) -> Outcome
@@ -95,6 +23,6 @@ pub fn prepare(key: &[u8], rounds: u32, direction: Direction, out: &mut [u8]) ->
     if refusal::is_refused(tried) {
         return tried;
     }
-    fill_for(direction, key, count, out);
+    filling::fill_for(direction, key, count, out);
     Outcome::Done
 }

@@ -9,9 +9,9 @@ use native.Mathlib.Omega.{arith}
 use lib.Dec.{T, T-not, eqb, eqb-refl, lit<}
 use Rattle.field.specs.Field.{times, product, reduced}
 use Rattle.field.proofs.Computed.{and-left, and-right, all, passed}
-use Rattle.schedule.specs.Columns.{columns, fill, IsStage, filled, columnRule}
+use Rattle.stages.specs.Columns.{columns, fill, IsStage, filled, columnRule}
 use Rattle.sizes.specs.Sizes.{Sized}
-use Rattle.schedule.specs.Stages.{byRow, moved, linearStep}
+use Rattle.stages.specs.Stages.{byRow, moved, linearStep}
 use Rattle.basics.specs.Repeated.{repeated}
 use Rattle.period.proofs.Alike.{alike, alike-same}
 

@@ -5,12 +5,12 @@ use mathlib.Core.List.{List}
 use Prim.Native.Nat.{ℕ, zero, suc, _-_, _*_}
 use native.Mathlib.Omega.{arith}
 use Rattle.field.proofs.Addition.{zero-right}
-use Rattle.schedule.specs.Columns.{IsStage, filled, plus}
+use Rattle.stages.specs.Columns.{IsStage, filled, plus}
 use Rattle.sizes.specs.Sizes.{Sized}
-use Rattle.schedule.specs.Stages.{linearStep, constant, stage, zeros, closingSum}
-use Rattle.schedule.proofs.Columns.{fill-path}
-use Rattle.schedule.proofs.Steps.{plus-fill, plus-stage, step-stage, step-plus, plus-assoc, plus-undone}
-use Rattle.schedule.proofs.Stages.{constant-stage, zeros-stage, stage-stage}
+use Rattle.stages.specs.Stages.{linearStep, constant, stage, zeros, closingSum}
+use Rattle.stages.proofs.Columns.{fill-path}
+use Rattle.stages.proofs.Steps.{plus-fill, plus-stage, step-stage, step-plus, plus-assoc, plus-undone}
+use Rattle.stages.proofs.Stages.{constant-stage, zeros-stage, stage-stage}
 use Rattle.basics.specs.Repeated.{repeated}
 use Rattle.period.proofs.Home.{period}
 

@@ -14,10 +14,10 @@ use Rattle.field.proofs.Computed.{all, passed}
 use Rattle.field.proofs.Addition.{assoc, comm, cancel, self, zero-right, exchange}
 use Rattle.field.proofs.Linear.{same, agree-bytes, times-right}
 use Rattle.field.proofs.Multiplication.{times-zero}
-use Rattle.schedule.specs.Columns.{cell, columns, fill, IsStage, filled, columnRule}
+use Rattle.stages.specs.Columns.{cell, columns, fill, IsStage, filled, columnRule}
 use Rattle.sizes.specs.Sizes.{Sized}
-use Rattle.schedule.specs.Stages.{next, previous, byRow, moved, rotated, linearStep}
-use Rattle.schedule.proofs.Columns.{fill-path, cell-fill}
+use Rattle.stages.specs.Stages.{next, previous, byRow, moved, rotated, linearStep}
+use Rattle.stages.proofs.Columns.{fill-path, cell-fill}
 use Rattle.basics.specs.Repeated.{repeated}
 use Rattle.period.proofs.Alike.{alike, alike-sound}
 

@@ -4,9 +4,9 @@ use mathlib.Core.Path.{_≡_}
 use mathlib.Core.Logic.{_≢_}
 use mathlib.Core.List.{List}
 use Prim.Native.Nat.{ℕ, _-_, _*_, _<_}
-use Rattle.schedule.specs.Columns.{IsStage, plus}
+use Rattle.stages.specs.Columns.{IsStage, plus}
 use Rattle.sizes.specs.Sizes.{Sized}
-use Rattle.schedule.specs.Stages.{linearStep, stage, closingSum}
+use Rattle.stages.specs.Stages.{linearStep, stage, closingSum}
 use Rattle.basics.specs.Repeated.{repeated}
 
 -- the linear step alone has period exactly 6t: its 6t-th power is the identity on every stage, and no smaller positive power is

@@ -8,9 +8,9 @@ use lib.ListN.{length, getD}
 use borrow.Author.Tests.{eqb-true}
 use Rattle.basics.proofs.Tests.{and-first, and-second}
 use Rattle.layers.specs.State.{State, IsState, built}
-use Rattle.blocks.specs.Blocks.{bytesOf}
+use Rattle.block_bytes.specs.Blocks.{bytesOf}
 use Rattle.basics.specs.Bytes.{AreBytes}
-use Rattle.blocks.proofs.RoundTrip.{bytes-state}
+use Rattle.block_bytes.proofs.RoundTrip.{bytes-state}
 use Rattle.numbers.proofs.Laws.{two-again, four-again, high, low, four₀, four₁, four₂, four₃}
 use Rattle.grant.specs.Grants.{plainGrant, contractorIn, countIn, sizeBlockIn, rightIn, isMarked}
 

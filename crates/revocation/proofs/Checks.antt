@@ -13,19 +13,19 @@ use Rattle.refusal.proofs.Tries.{none-given}
 use Rattle.refusal.proofs.Ladder.{all-pass}
 use Rattle.refusal.proofs.Answers.{answer-done}
 use Rattle.rounds.proofs.Restored.{enciphered-state}
-use Rattle.blocks.specs.Blocks.{stateOf}
+use Rattle.block_bytes.specs.Blocks.{stateOf}
 use Rattle.basics.specs.Bytes.{AreBytes}
-use Rattle.blocks.proofs.RoundTrip.{block-state}
+use Rattle.block_bytes.proofs.RoundTrip.{block-state}
 use Rattle.sizes.specs.Sizes.{keyLength}
-use Rattle.lists.specs.declared.Direction.the-variants.{Deciphering}
-use Rattle.lists.specs.Lists.{listFor}
-use Rattle.lists.proofs.Lists.{states-for}
+use Rattle.key_lists.specs.declared.Direction.the-variants.{Deciphering}
+use Rattle.key_lists.specs.KeyLists.{listFor}
+use Rattle.key_lists.proofs.Lists.{states-for}
 use Rattle.cipher.specs.Cipher.{cipherBlock}
 use Rattle.roll.specs.declared.Roll.{Roll}
 use Rattle.roll.specs.Roll.{isContractor, countOf, inStanding}
 use Rattle.roll.proofs.Contractors.{a-contractor, is-contractor, a-standing, is-standing}
 use Rattle.grant.specs.Grants.{isRight, plainGrant, contractorIn, countIn, sizeBlockIn, rightIn, isMarked, isGrant}
-use Rattle.grant.specs.Calls.{openedGrant, checkTries, checkNumber, checkContractor, checkRight}
+use Rattle.checking.specs.Checking.{openedGrant, checkTries, checkNumber, checkContractor, checkRight}
 use Rattle.grant.proofs.Tests.{a-grant, is-grant}
 use Rattle.revocation.specs.Claims.{Opening, Accepted}
 use Rattle.revocation.proofs.Bytes.{reads-contractor, reads-count, reads-block, reads-right, reads-mark, written-again, state-bytes-small}

@@ -1,13 +1,15 @@
 -- A term of each type of specs/Claims.antt.
 use mathlib.Core.Path.{refl}
 use Rattle.refusal.specs.Tries.{first, answered}
-use Rattle.roll.specs.Roll.{emptyRoll, countOf, inStanding, counted, enterTries, enteredRoll, withdrawTries}
+use Rattle.roll.specs.Roll.{emptyRoll, countOf, inStanding, counted}
+use Rattle.roll_changes.specs.Changes.{enterTries, enteredRoll, withdrawTries}
 use Rattle.histories.specs.Histories.{enter, changed, here, IsRoll}
 use Rattle.histories.proofs.Counts.{zeros-small, changed-roll, empty-roll, left-seen, right-seen}
 use mathlib.Core.Logic.{inl, inr}
 use lib.Dec.{lit<}
 use Rattle.refusal.proofs.Ladder.{ordered}
-use Rattle.grant.specs.Calls.{issueTries, checkTries}
+use Rattle.issuing.specs.Issuing.{issueTries}
+use Rattle.checking.specs.Checking.{checkTries}
 use Rattle.revocation.specs.Claims.{OpensExactlyWhen, EachRefusalFirst, IssuedOpens, RevokedNeverOpens, RevokedInTwoRooms}
 use Rattle.revocation.specs.Claims.{RevocationHappens, OthersUndisturbed, NumbersTellVerdicts}
 use Rattle.revocation.proofs.Checks.{opening, accepted}

@@ -20,7 +20,8 @@ use Rattle.roll.proofs.Contractors.{Contractor, a-contractor, a-standing}
 use Rattle.histories.specs.Histories.{Change, rollAfter, Withdrawn, Withdraws, IsRoll}
 use Rattle.histories.proofs.Counts.{counted-up, asked-counts}
 use Rattle.grant.specs.Grants.{isRight, plainGrant, contractorIn, countIn, sizeBlockIn, rightIn}
-use Rattle.grant.specs.Calls.{issueTries, issuedGrant, openedGrant}
+use Rattle.issuing.specs.Issuing.{issueTries, issuedGrant}
+use Rattle.checking.specs.Checking.{openedGrant}
 use Rattle.grant.proofs.Tests.{right-small}
 use Rattle.revocation.specs.Claims.{Opening, Issued, Checks, OpensNothing}
 use Rattle.revocation.proofs.Checks.{one-or-two, passed, Named, named, accepted}

@@ -17,7 +17,8 @@ use Rattle.grant.specs.declared.Right.the-variants.{Reading, Overwriting}
 use Rattle.grant.specs.declared.Verdict.{Verdict}
 use Rattle.grant.specs.declared.Verdict.the-variants.{Opens, Refused}
 use Rattle.grant.specs.Grants.{rightNumber, contractorIn, rightIn, verdictNumber, verdictContractor, verdictRight}
-use Rattle.grant.specs.Calls.{inputTries, openedGrant, plainTries, checkNumber, checkContractor, checkRight}
+use Rattle.judging.specs.Judging.{inputTries, plainTries}
+use Rattle.checking.specs.Checking.{openedGrant, checkNumber, checkContractor, checkRight}
 use Rattle.revocation.specs.Claims.{SameCheck}
 
 -- ---- others

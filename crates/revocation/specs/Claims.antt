@@ -10,11 +10,13 @@ use Rattle.refusal.specs.Claims.{Ordered}
 use Rattle.basics.specs.Bytes.{AreBytes}
 use Rattle.sizes.specs.Sizes.{keyLength, roundsAllowed}
 use Rattle.roll.specs.declared.Roll.{Roll}
-use Rattle.roll.specs.Roll.{emptyRoll, countOf, enterTries, enteredRoll, withdrawTries}
+use Rattle.roll.specs.Roll.{emptyRoll, countOf}
+use Rattle.roll_changes.specs.Changes.{enterTries, enteredRoll, withdrawTries}
 use Rattle.histories.specs.Histories.{Change, withdraw, contractorOf, changed, rollAfter, Withdrawn, Withdraws, Merge, IsRoll}
 use Rattle.grant.specs.declared.Verdict.{Verdict}
 use Rattle.grant.specs.Grants.{isRight, plainGrant, contractorIn, verdictNumber, verdictContractor, verdictRight}
-use Rattle.grant.specs.Calls.{issueTries, issueNumber, issuedGrant, openedGrant, checkTries, checkNumber, checkContractor, checkRight}
+use Rattle.issuing.specs.Issuing.{issueTries, issueNumber, issuedGrant}
+use Rattle.checking.specs.Checking.{openedGrant, checkTries, checkNumber, checkContractor, checkRight}
 
 -- ---- a grant opens exactly when
 -- none of the input reasons holds; the grant deciphers to the plain bytes of a grant to a contractor, 1 to 200, for that size block and

@@ -2,14 +2,12 @@
 use mathlib.Core.Path.{_≡_, sym, ap}
 use mathlib.Core.Bool.{Bool, true, false, cond}
 use Prim.Native.Nat.{ℕ, _-_, _%_, _≤_, _<_}
-use native.Mathlib.Omega.{arith}
 use lib.Dec.{eqb, ltb, leb}
 use lib.ListN.{getD}
 use borrow.Author.Tests.{leb-true, le-leb, lt-ltb, ltb-true, eqb-true, eq-eqb}
-use Rattle.refusal.specs.Tries.{NoneHolds}
 use Rattle.basics.proofs.Tests.{and-first, and-second}
 use Rattle.roll.specs.declared.Roll.{Roll}
-use Rattle.roll.specs.Roll.{isContractor, countOf, inStanding, enterTries, withdrawTries}
+use Rattle.roll.specs.Roll.{isContractor, countOf, inStanding}
 
 -- a contractor's number
 pub record Contractor (c : ℕ) : Type 0 where
@@ -47,10 +45,3 @@ a-standing n e = record {
 pub is-standing : (n : ℕ) → Standing n → inStanding n ≡ true
 unfolding inStanding
 is-standing n h = rw (eq-eqb (n % 2) 1 (h .odd), lt-ltb n 65535 (h .below))
-
--- ---- where entering or withdrawing is not refused, the count can be added to
-pub may-enter : (c n : ℕ) → NoneHolds (enterTries c n) → (isContractor c ≡ true) × (n < 65535)
-may-enter c n h = (h .0, omega (arith, ltb-true n 65534 (h .1 .1 .0)))
-
-pub may-withdraw : (c n : ℕ) → NoneHolds (withdrawTries c n) → (isContractor c ≡ true) × (n < 65535)
-may-withdraw c n h = (h .0, a-standing n (h .1 .0) .below)

@@ -1,10 +1,9 @@
 -- The known answers: each is computed from the definitions.
 use mathlib.Core.Path.{refl}
 use Rattle.basics.specs.Cases.{Hold}
-use Rattle.refusal.specs.Tries.{first}
-use Rattle.roll.specs.Roll.{emptyRoll, countOf, inStanding, countsOf, rollOf, countsBytes, rollBytes}
+use Rattle.roll.specs.Roll.{inStanding}
 use Rattle.roll.specs.KnownAnswers.{knownAnswers}
 
 pub known-answers : Hold knownAnswers
-unfolding knownAnswers first emptyRoll countOf inStanding countsOf rollOf countsBytes rollBytes
-known-answers = (refl, (refl, (refl, (refl, (refl, (refl, (refl, (refl, (refl, (refl, (refl, tt)))))))))))
+unfolding knownAnswers inStanding
+known-answers = (refl, (refl, (refl, (refl, (refl, (refl, (refl, tt)))))))

@@ -1,4 +1,2 @@
 pub mod Contractors
-pub mod Pairs
-pub mod Lemmas
 pub mod KnownAnswers

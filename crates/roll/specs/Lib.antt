@@ -1,4 +1,2 @@
 pub mod Roll
-pub mod ForProver
-pub mod Lemmas
 pub mod KnownAnswers

@@ -1,34 +1,14 @@
-// The roll: a count for each contractor, by value. Entering and withdrawing each add 1 to a contractor's count.
-
-mod counts;
-mod stored;
-mod tries;
+// The roll by value: a count for each contractor.
 
 ghost use mathlib.Core.Path.{_≡_};
-ghost use Rattle.refusal.specs.Reasons.{outcomeNumber};
-ghost use Rattle.roll.specs.Roll.{emptyRoll, enterNumber, enteredRoll, withdrawNumber, withdrawnRoll};
-use counts::add_one;
-pub use counts::count_of;
-pub use counts::is_contractor;
-pub use counts::is_in_standing;
-use refusal::Outcome;
-pub use stored::add_one_in;
-pub use stored::count_in;
-pub use tries::try_enter;
-pub use tries::try_withdraw;
-
-// The bytes of a roll as hosts lend it.
-pub const ROLL_BYTES: usize = 400;
+ghost use mathlib.Core.Bool.{true};
+ghost use Prim.Native.Nat.{_<_};
+ghost use Rattle.roll.specs.Roll.{emptyRoll, isContractor, countOf, inStanding, counted};
+use basics::both;
 
 // The count of contractor c stands at c - 1.
 pub struct Roll {
     pub counts: [u16; 200],
-}
-
-// What entering and withdrawing answer.
-pub struct Changed {
-    pub outcome: Outcome,
-    pub roll: Roll,
 }
 
 // A roll on which nobody was ever entered.
@@ -40,32 +20,38 @@ pub fn empty() -> Roll
     }
 }
 
-// Enters a contractor who is not in standing.
-pub fn enter(roll: Roll, contractor: u32) -> Changed
-    ensures { λ r. ⌜ outcomeNumber (r .outcome) ≡ enterNumber roll contractor ⌝ }
-    ensures { λ r. ⌜ r .roll ≡ enteredRoll roll contractor ⌝ }
+pub fn is_contractor(c: u32) -> bool
+    ensures { λ r. ⌜ r ≡ isContractor c ⌝ }
 {
-    let outcome = try_enter(Outcome::Done, contractor, count_of(roll, contractor));
-    if refusal::is_refused(outcome) {
-        return Changed { outcome, roll };
-    }
-    Changed {
-        outcome,
-        roll: add_one(roll, contractor),
-    }
+    both(1 <= c, c <= 200)
 }
 
-// Withdraws a contractor who is in standing.
-pub fn withdraw(roll: Roll, contractor: u32) -> Changed
-    ensures { λ r. ⌜ outcomeNumber (r .outcome) ≡ withdrawNumber roll contractor ⌝ }
-    ensures { λ r. ⌜ r .roll ≡ withdrawnRoll roll contractor ⌝ }
+// The count of a contractor, and 0 for a number that is nobody's.
+pub fn count_of(roll: Roll, c: u32) -> u16
+    ensures { λ r. ⌜ r ≡ countOf roll c ⌝ }
 {
-    let outcome = try_withdraw(Outcome::Done, contractor, count_of(roll, contractor));
-    if refusal::is_refused(outcome) {
-        return Changed { outcome, roll };
+    if !is_contractor(c) {
+        return 0;
     }
-    Changed {
-        outcome,
-        roll: add_one(roll, contractor),
-    }
+    let counts = roll.counts;
+    let at = (c - 1) as usize;
+    counts[at]
+}
+
+// The count is odd and below 65,535.
+pub fn is_in_standing(n: u16) -> bool
+    ensures { λ r. ⌜ r ≡ inStanding n ⌝ }
+{
+    both(n % 2 == 1, n < 65535)
+}
+
+// The roll with 1 added to a contractor's count.
+pub fn add_one(roll: Roll, c: u32) -> Roll
+    requires { ⌜ (isContractor c ≡ true) × (countOf roll c < 65535) ⌝ }
+    ensures { λ r. ⌜ r ≡ counted roll c ⌝ }
+{
+    let mut counts = roll.counts;
+    let at = (c - 1) as usize;
+    counts[at] = counts[at] + 1;
+    Roll { counts }
 }

@@ -7,17 +7,17 @@ ghost use Rattle.rounds.specs.Rounds.{round, lastRound};
 pub fn middle_round(k: [[u8; 3]; 4], a: [[u8; 3]; 4]) -> [[u8; 3]; 4]
     ensures { λ r. ⌜ r ≡ round k a ⌝ }
 {
-    let substituted = layers::substitute(a);
-    let permuted = layers::permute(substituted);
-    let diffused = layers::diffuse(permuted);
-    layers::add_key(k, diffused)
+    let substituted = substitution::substitute(a);
+    let permuted = permutation::permute(substituted);
+    let diffused = diffusion::diffuse(permuted);
+    key_addition::add_key(k, diffused)
 }
 
 // The last round, which has no diffusion.
 pub fn last_round(k: [[u8; 3]; 4], a: [[u8; 3]; 4]) -> [[u8; 3]; 4]
     ensures { λ r. ⌜ r ≡ lastRound k a ⌝ }
 {
-    let substituted = layers::substitute(a);
-    let permuted = layers::permute(substituted);
-    layers::add_key(k, permuted)
+    let substituted = substitution::substitute(a);
+    let permuted = permutation::permute(substituted);
+    key_addition::add_key(k, permuted)
 }

@@ -1,32 +1,20 @@
 // Runs lists of 200 calls on key holders, drawn from the generator, and prints what each call answered and the holder after the list, in
 // the format of the independent program's `routes` (reference/README.md).
 
-mod run;
-
 use holder::Holder;
 use holder::HolderAnswer;
-use holder::Way;
-
-// A call's answer, with the holder that it returned or left.
-pub struct Logged {
-    pub number: u32,
-    pub steps: usize,
-    pub way: Way,
-    pub subkey: [u8; 12],
-    pub holder: Holder,
-}
 
 // A call from two drawn bytes.
 fn call_of(x: u8, y: u8) -> u8 {
     let kind = x % 8;
     if kind < 2 {
-        return run::FORWARD;
+        return route_run::FORWARD;
     }
     if kind < 4 {
-        return run::BACK;
+        return route_run::BACK;
     }
     if kind < 5 {
-        return run::SUBKEY;
+        return route_run::SUBKEY;
     }
     y % 32
 }
@@ -60,13 +48,13 @@ fn way(b: u8) {
 
 // A line of the log: a call and its row.
 fn line(call: u8, row: [u8; 41]) {
-    if call == run::FORWARD {
+    if call == route_run::FORWARD {
         printing::word(b"forward");
         number(row[0]);
-    } else if call == run::BACK {
+    } else if call == route_run::BACK {
         printing::word(b"back");
         number(row[0]);
-    } else if call == run::SUBKEY {
+    } else if call == route_run::SUBKEY {
         printing::word(b"subkey");
         number(row[0]);
         printing::space();
@@ -107,7 +95,7 @@ fn ending(r: HolderAnswer, key: &[u8]) {
     let h = r.holder;
     printing::word(b"holder ");
     holder_line(h);
-    let s = holder::straight(key, h.number);
+    let s = holder_from_key::straight(key, h.number);
     let outcome = s.outcome;
     let given = s.holder;
     printing::word(b"straight ");
@@ -134,7 +122,7 @@ fn route(x: u64, key: &mut [u8]) -> u64 {
     printing::word(b"route ");
     printing::hex_bytes(key);
     printing::newline();
-    let end = run::run(key, &calls, &mut log);
+    let end = route_run::run(key, &calls, &mut log);
     lines(&calls, &log);
     ending(end, key);
     x2

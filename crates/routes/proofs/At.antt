@@ -8,24 +8,25 @@ use lib.ListN.{length}
 use borrow.Author.Tests.{lt-ltb, le-ltb}
 use Rattle.refusal.proofs.Tries.{first-passes, first-holds, none-given}
 use Rattle.refusal.proofs.Answers.{answer-done}
-use Rattle.blocks.specs.Blocks.{bytesOf}
+use Rattle.block_bytes.specs.Blocks.{bytesOf}
 use Rattle.basics.specs.Bytes.{AreBytes}
 use Rattle.sizes.specs.Sizes.{keyLength, tOf, turn}
-use Rattle.schedule.specs.Columns.{IsStage, plus, padded}
-use Rattle.schedule.specs.Stages.{linearStep, stage, subkeyOf}
-use Rattle.schedule.proofs.Columns.{as-stage}
+use Rattle.stages.specs.Columns.{IsStage, plus, padded}
+use Rattle.stages.specs.Stages.{linearStep, stage, subkeyOf}
+use Rattle.stages.proofs.Columns.{as-stage}
 use Rattle.sizes.proofs.Keys.{a-key}
-use Rattle.schedule.proofs.Keys.{key-length, length-stage}
-use Rattle.schedule.proofs.Padded.{padded-agrees, plus-padded, subkey-agrees}
+use Rattle.stages.proofs.Keys.{key-length, length-stage}
+use Rattle.stages.proofs.Padded.{padded-agrees, plus-padded, subkey-agrees}
 use Rattle.basics.specs.Repeated.{repeated}
 use Rattle.cycle.specs.Cycle.{following, preceding, addend, stageAfter, stageBefore}
 use Rattle.cycle.proofs.Agree.{inverse-agrees}
 use Rattle.cycle.proofs.Around.{after-key, before-key}
 use Rattle.holder.specs.declared.Way.{Way}
 use Rattle.holder.specs.declared.Way.the-variants.{Forward, Back}
-use Rattle.holder.specs.Holder.{whole, holderAt, blank, onward, backward, stepped, ringDistance, wayTo, walked}
-use Rattle.holder.specs.Calls.{makeTries, makeNumber, madeHolder, straightTries, straightNumber, straightHolder, holderTries, holderNumber}
-use Rattle.holder.specs.Calls.{stepHolder, walkTries, walkNumber, walkHolder, walkSteps, walkWay, noSubkey, subkeyHeld}
+use Rattle.holder.specs.Holder.{whole, holderAt, blank, onward, backward, stepped}
+use Rattle.holder_walk.specs.Walk.{ringDistance, wayTo, walked, walkTries, walkNumber, walkHolder, walkSteps, walkWay}
+use Rattle.holder_from_key.specs.FromKey.{makeTries, makeNumber, madeHolder, straightTries, straightNumber, straightHolder}
+use Rattle.holder_steps.specs.Steps.{holderTries, holderNumber, stepHolder, noSubkey, subkeyHeld}
 use Rattle.holder.proofs.Whole.{is-whole}
 use Rattle.holder.proofs.Zeros.{padded-zeros}
 use Rattle.routes.proofs.Ring.{numberTo, numbers-below, arrives}

@@ -4,8 +4,9 @@ use Rattle.refusal.specs.Tries.{first}
 use mathlib.Core.List.{[]}
 use Rattle.refusal.proofs.Tries.{first-holds}
 use Rattle.refusal.proofs.Answers.{answer-refused}
-use Rattle.holder.specs.Holder.{whole, blank, stepped, walked}
-use Rattle.holder.specs.Calls.{holderTries, holderNumber, stepHolder, walkTries, walkNumber, walkHolder}
+use Rattle.holder.specs.Holder.{whole, blank, stepped}
+use Rattle.holder_walk.specs.Walk.{walked, walkTries, walkNumber, walkHolder}
+use Rattle.holder_steps.specs.Steps.{holderTries, holderNumber, stepHolder}
 use Rattle.routes.specs.Claims.{AnyRoute, FullTurn, WalkIsShortest, RefusalKeepsHolder, BrokenIsRefused, BlankIsRefused}
 use Rattle.routes.proofs.Ring.{shortest}
 use Rattle.routes.proofs.Routes.{any-route-of}

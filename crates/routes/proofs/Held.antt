@@ -13,17 +13,17 @@ use Rattle.refusal.proofs.Tries.{first-passes, none-given}
 use Rattle.refusal.proofs.Answers.{answer-done}
 use Rattle.basics.specs.Bytes.{AreBytes}
 use Rattle.sizes.specs.Sizes.{keyLength, tOf, turn}
-use Rattle.schedule.specs.Columns.{IsStage, padded}
-use Rattle.schedule.specs.Stages.{stage}
-use Rattle.schedule.proofs.Columns.{as-stage, stage-byte}
+use Rattle.stages.specs.Columns.{IsStage, padded}
+use Rattle.stages.specs.Stages.{stage}
+use Rattle.stages.proofs.Columns.{as-stage, stage-byte}
 use Rattle.sizes.proofs.Keys.{a-key}
-use Rattle.schedule.proofs.Padded.{stage-length}
+use Rattle.stages.proofs.Padded.{stage-length}
 use Rattle.basics.specs.Repeated.{repeated}
 use Rattle.cycle.proofs.Around.{of-key}
 use Rattle.holder.specs.declared.Holder.{Holder}
 use Rattle.holder.specs.declared.Way.{Way}
 use Rattle.holder.specs.Holder.{tHeld, allZero, whole, holderAt, stepped}
-use Rattle.holder.specs.Calls.{holderTries, holderNumber, stepHolder}
+use Rattle.holder_steps.specs.Steps.{holderTries, holderNumber, stepHolder}
 use Rattle.holder.proofs.Whole.{a-whole, turn-held, step-whole}
 use Rattle.routes.specs.Claims.{ComesHome}
 use Rattle.routes.proofs.Ring.{full-turn}

@@ -11,8 +11,8 @@ use Rattle.cycle.specs.Cycle.{following, preceding}
 use Rattle.cycle.proofs.Addends.{following-is, following-below, preceding-below, back-on, on-back}
 use Rattle.holder.specs.declared.Way.{Way}
 use Rattle.holder.specs.declared.Way.the-variants.{Forward, Back}
-use Rattle.holder.specs.Holder.{stepsForward, ringDistance, wayTo}
-use Rattle.holder.proofs.Walks.{ring-forward, ring-back}
+use Rattle.holder_walk.specs.Walk.{stepsForward, ringDistance, wayTo}
+use Rattle.holder_walk.proofs.Walks.{ring-forward, ring-back}
 use Rattle.routes.specs.Claims.{Shortest}
 
 -- the number after a step

@@ -14,9 +14,10 @@ use Rattle.sizes.proofs.Keys.{a-key}
 use Rattle.cycle.proofs.Addends.{following-below, preceding-below}
 use Rattle.holder.specs.declared.Holder.{Holder}
 use Rattle.holder.specs.declared.Way.the-variants.{Forward, Back}
-use Rattle.holder.specs.Holder.{holderAt, ringDistance, wayTo}
-use Rattle.holder.specs.Calls.{madeHolder}
-use Rattle.holder.proofs.Walks as walks
+use Rattle.holder.specs.Holder.{holderAt}
+use Rattle.holder_walk.specs.Walk.{ringDistance, wayTo}
+use Rattle.holder_from_key.specs.FromKey.{madeHolder}
+use Rattle.holder_walk.proofs.Walks as walks
 use Rattle.routes.specs.Routes.{Call, forward, back, subkey, walk, Answer, held, reported, given, returned, leftBy, answer}
 use Rattle.routes.specs.Routes.{lastHolder, answers, placeAfter, lastPlace, expectedAnswer, expectedAnswers}
 use Rattle.routes.specs.Claims.{ComesHome, Route}

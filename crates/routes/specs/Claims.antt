@@ -12,8 +12,10 @@ use Rattle.cycle.specs.Cycle.{following, preceding}
 use Rattle.holder.specs.declared.Holder.{Holder}
 use Rattle.holder.specs.declared.Way.{Way}
 use Rattle.holder.specs.declared.Way.the-variants.{Forward, Back}
-use Rattle.holder.specs.Holder.{tHeld, whole, holderAt, blank, ringDistance, wayTo}
-use Rattle.holder.specs.Calls.{makeNumber, madeHolder, straightNumber, straightHolder, holderNumber, stepHolder, walkNumber, walkHolder}
+use Rattle.holder.specs.Holder.{tHeld, whole, holderAt, blank}
+use Rattle.holder_walk.specs.Walk.{ringDistance, wayTo, walkNumber, walkHolder}
+use Rattle.holder_from_key.specs.FromKey.{makeNumber, madeHolder, straightNumber, straightHolder}
+use Rattle.holder_steps.specs.Steps.{holderNumber, stepHolder}
 use Rattle.routes.specs.Routes.{Call, lastHolder, answers, lastPlace, expectedAnswers}
 
 -- 6t steps on end, all forward or all back, from a whole holder: none is refused, and the holder after them is the one before

@@ -4,15 +4,16 @@ use mathlib.Core.List.{List, [], _∷_}
 use Prim.Native.Nat.{ℕ}
 use lib.Dec.{ltb}
 use lib.ListN.{length}
-use Rattle.blocks.specs.Blocks.{bytesOf}
+use Rattle.block_bytes.specs.Blocks.{bytesOf}
 use Rattle.sizes.specs.Sizes.{tOf, turn}
-use Rattle.schedule.specs.Stages.{stage, subkeyOf}
+use Rattle.stages.specs.Stages.{stage, subkeyOf}
 use Rattle.cycle.specs.Cycle.{following, preceding}
 use Rattle.holder.specs.declared.Holder.{Holder}
 use Rattle.holder.specs.declared.Way.{Way}
 use Rattle.holder.specs.declared.Way.the-variants.{Forward, Back}
-use Rattle.holder.specs.Holder.{holderAt, ringDistance, wayTo}
-use Rattle.holder.specs.Calls.{holderNumber, stepHolder, walkNumber, walkHolder, walkSteps, walkWay, subkeyHeld}
+use Rattle.holder.specs.Holder.{holderAt}
+use Rattle.holder_walk.specs.Walk.{ringDistance, wayTo, walkNumber, walkHolder, walkSteps, walkWay}
+use Rattle.holder_steps.specs.Steps.{holderNumber, stepHolder, subkeyHeld}
 
 -- a step forward, a step back, a request for the subkey, or a walk to a stage
 pub data Call : Type 0 where

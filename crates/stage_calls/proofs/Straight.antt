@@ -8,10 +8,10 @@ use native.Mathlib.Nat.{zero-add}
 use lib.ListN.{length, take, drop}
 use Rattle.sizes.specs.Sizes.{keyLength, tOf}
 use Rattle.sizes.proofs.Keys.{a-key}
-use Rattle.schedule.specs.Columns.{padded}
-use Rattle.schedule.specs.Stages.{stage, subkeyOf}
-use Rattle.schedule.proofs.Keys.{key-length, length-stage}
-use Rattle.schedule.proofs.Padded.{padded-agrees, subkey-agrees}
+use Rattle.stages.specs.Columns.{padded}
+use Rattle.stages.specs.Stages.{stage, subkeyOf}
+use Rattle.stages.proofs.Keys.{key-length, length-stage}
+use Rattle.stages.proofs.Padded.{padded-agrees, subkey-agrees}
 
 -- bytes put at the start
 pub put-first : (bytes out : List ℕ) → take 0 out ++ (bytes ++ drop (0 + length bytes) out) ≡ bytes ++ drop (length bytes) out

@@ -4,11 +4,11 @@ use Prim.Native.Nat.{ℕ}
 use lib.Dec.{leb}
 use lib.ListN.{length}
 use Rattle.refusal.specs.Tries.{Try, _unless_, first, written}
-use Rattle.blocks.specs.Blocks.{bytesOf}
+use Rattle.block_bytes.specs.Blocks.{bytesOf}
 use Rattle.sizes.specs.Sizes.{tOf}
-use Rattle.schedule.specs.Columns.{padded}
-use Rattle.schedule.specs.Stages.{stage, subkeyOf}
-use Rattle.holder.specs.Calls.{straightTries}
+use Rattle.stages.specs.Columns.{padded}
+use Rattle.stages.specs.Stages.{stage, subkeyOf}
+use Rattle.holder_from_key.specs.FromKey.{straightTries}
 
 -- the order of the stage straight from the key, 1 and 5, and then the room: 4
 abbrev pub stageCallTries : ℕ → List ℕ → ℕ → List ℕ → List Try

@@ -10,12 +10,12 @@ pub fn stage(key: &[u8], n: u32, out: &mut [u8]) -> u32
     ensures { λ r. ⌜ r ≡ stageCallNumber 24 (now (key .entry)) n (now (out .entry)) ⌝ }
     ensures { λ _. ⌜ now (out .exit) ≡ stageCallOutput (now (key .entry)) n (now (out .entry)) ⌝ }
 {
-    let known = holder::try_straight(key.len(), n as usize);
+    let known = holder_from_key::try_straight(key.len(), n as usize);
     let tried = unless(known, Reason::OutputTooShort, 24 <= out.len());
     if refusal::is_refused(tried) {
         return refusal::outcome_number(tried);
     }
-    let bytes = holder::stage_bytes(key, n as usize);
+    let bytes = holder_from_key::stage_bytes(key, n as usize);
     blocks::put_bytes(out, 0, &bytes);
     0
 }
@@ -25,12 +25,12 @@ pub fn subkey(key: &[u8], n: u32, out: &mut [u8]) -> u32
     ensures { λ r. ⌜ r ≡ stageCallNumber 12 (now (key .entry)) n (now (out .entry)) ⌝ }
     ensures { λ _. ⌜ now (out .exit) ≡ subkeyCallOutput (now (key .entry)) n (now (out .entry)) ⌝ }
 {
-    let stage = holder::try_straight(key.len(), n as usize);
+    let stage = holder_from_key::try_straight(key.len(), n as usize);
     let tried = unless(stage, Reason::OutputTooShort, 12 <= out.len());
     if refusal::is_refused(tried) {
         return refusal::outcome_number(tried);
     }
-    let bytes = holder::stage_bytes(key, n as usize);
-    blocks::write_state(out, schedule::subkey(&bytes));
+    let bytes = holder_from_key::stage_bytes(key, n as usize);
+    blocks::write_state(out, subkeys::subkey(&bytes));
     0
 }

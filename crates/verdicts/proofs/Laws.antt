@@ -1,7 +1,7 @@
 -- From what the calls' contracts say to what the functions of this crate promise.
 use mathlib.Core.Path.{_≡_, refl, sym, ap, _∙_}
 use mathlib.Core.List.{List}
-use Prim.Native.Nat.{ℕ, _+_, _*_, _≤_, _<_}
+use Prim.Native.Nat.{ℕ, _≤_, _<_}
 use native.Mathlib.Omega.{arith}
 use lib.ListN.{length, take}
 use lib.Seq.{length-take-le}
@@ -13,21 +13,14 @@ use Rattle.refusal.proofs.Answers.{starts, answer-refused, answer-done}
 use Rattle.basics.specs.Bytes.{AreBytes}
 use Rattle.cipher.specs.Cipher.{cipherBlock}
 use Rattle.roll.specs.declared.Roll.{Roll}
-use Rattle.roll.specs.Roll.{rollOf}
 use Rattle.grant.specs.declared.Verdict.{Verdict}
 use Rattle.grant.specs.declared.Verdict.the-variants.{Opens, Refused}
 use Rattle.grant.specs.Grants.{verdictNumber, verdictContractor, verdictRight}
-use Rattle.grant.specs.Calls.{issueTries, issueNumber, issuedGrant, issueOutput, checkNumber, checkContractor, checkRight}
+use Rattle.issuing.specs.Issuing.{issueTries, issueNumber, issuedGrant, issueOutput}
+use Rattle.checking.specs.Checking.{checkNumber, checkContractor, checkRight}
 use Rattle.revocation.specs.Claims.{OpensExactlyWhen, IssuedOpens}
 use Rattle.revocation.proofs.Claims.{opens-exactly-when, issued-opens}
-use Rattle.check_call.specs.CheckCall.{callCode}
-use Rattle.roll_calls.specs.RollCalls.{issueCallTries, issueCallNumber, issueCallOutput}
-use Rattle.call_claims.specs.Claims.{CallOpensExactlyWhen, CallNeverZero}
-use Rattle.call_claims.proofs.Claims.{call-opens-exactly-when, call-never-zero}
-use Rattle.call_claims.specs.CallHistories.{CallIssued}
-use Rattle.call_claims.specs.Claims.{CallIssuedOpens}
-use Rattle.call_claims.proofs.Claims.{call-issued-opens}
-use Rattle.verdicts.specs.Decisions.{OpensFor, Decides, CallDecides, issuedCode}
+use Rattle.verdicts.specs.Decisions.{OpensFor, Decides}
 
 -- a verdict by its three numbers
 opens-for : (v : Verdict) (c r : ℕ) → verdictNumber v ≡ 0 → verdictContractor v ≡ c → verdictRight v ≡ r → OpensFor v c r
@@ -47,19 +40,8 @@ module _ (key : List ℕ) (hk : AreBytes key) (rounds : ℕ) (grant : List ℕ) 
         opens-only-if = λ g o. w .0 (sym (e .0) ∙ ap verdictNumber o);
       }
 
-  pub call-decided : (roll : List ℕ) (code : ℕ) → code ≡ callCode key rounds roll grant block right
-      → CallDecides key rounds roll grant block right code
-  unfolding CallOpensExactlyWhen CallNeverZero
-  call-decided roll code e =
-      let w = call-opens-exactly-when key hk rounds roll grant hg block few right in
-      record {
-        opens-if = λ l o. e ∙ w .1 l o;
-        opens-only-if = λ h. w .0 (omega (arith, h, e));
-        never-zero = omega (arith, e, call-never-zero key rounds roll grant block right);
-      }
-
 -- ---- an output that twelve bytes were written to
-began : (n : ℕ) (g out w : List ℕ) → length g ≡ 12 → n ≡ 0 → w ≡ written n g out → (12 ≤ length w) × (take 12 w ≡ g)
+pub began : (n : ℕ) (g out w : List ℕ) → length g ≡ 12 → n ≡ 0 → w ≡ written n g out → (12 ≤ length w) × (take 12 w ≡ g)
 began n g out w l e ew =
     let s = starts n g out e in
     (omega (arith, l, s .0, ap length ew), ap (λ (m : ℕ). take m w) (sym l) ∙ ap (take (length g)) ew ∙ s .1)
@@ -68,7 +50,7 @@ began n g out w l e ew =
 pub twelve-taken : {w x : List ℕ} → w ≡ x → 12 ≤ length w → 12 ≡ length (take 12 w)
 twelve-taken {w} e h = sym (length-take-le 12 w h)
 
-twelve : (key : List ℕ) (rounds : ℕ) (roll : Roll) (c b r : ℕ) → length (issuedGrant key rounds roll c b r) ≡ 12
+pub twelve : (key : List ℕ) (rounds : ℕ) (roll : Roll) (c b r : ℕ) → length (issuedGrant key rounds roll c b r) ≡ 12
 unfolding issuedGrant cipherBlock
 twelve key rounds roll c b r = refl
 
@@ -119,30 +101,3 @@ module _ (key : List ℕ) (rounds : ℕ) (roll : Roll) (contractor block right :
           h .1 .1 ∙ ap (λ (g : List ℕ). checkRight key rounds roll g block right) eg ∙ a .answers-right ∙ answer-done ts right 0 e,
         ),
       )
-
--- ---- the same of the C calls
-module _ (key : List ℕ) (rounds : ℕ) (roll : List ℕ) (contractor block right : ℕ) (out : List ℕ) where
-  pub call-refused-first : (n : ℕ) → n ≡ issueCallNumber key rounds roll contractor block right out → (n ≡ 0 → ⊥)
-      → n ≡ issuedCode key rounds roll contractor block right out
-  unfolding issuedCode
-  call-refused-first n e d =
-      let ts = issueCallTries key rounds roll contractor block right out in
-      e ∙ answer-refused ts n (1000 * right + contractor) (issueCallNumber key rounds roll contractor block right out) (omega (arith, d)) (sym e)
-
-  module _ (e : issueCallNumber key rounds roll contractor block right out ≡ 0) (w : List ℕ)
-      (ew : w ≡ issueCallOutput key rounds roll contractor block right out) where
-    pub call-room : 12 ≤ length w
-    unfolding issueCallOutput
-    call-room =
-        let g = issuedGrant key rounds (rollOf roll) contractor block right in
-        began (issueCallNumber key rounds roll contractor block right out) g out w (twelve key rounds (rollOf roll) contractor block right) e ew .0
-
-    pub call-opened : AreBytes key → AreBytes roll → block < 4294967296
-        → (code : ℕ) → code ≡ callCode key rounds roll (take 12 w) block right → code ≡ issuedCode key rounds roll contractor block right out
-    unfolding CallIssuedOpens issuedCode
-    call-opened hk hr few code ec =
-        let i : CallIssued key rounds roll contractor block right out = record { key-bytes = hk; roll-bytes = hr; block-small = few; number = e } in
-        ec ∙ ap (λ (w : List ℕ). callCode key rounds roll (take 12 w) block right) ew
-        ∙ call-issued-opens key rounds roll contractor block right out i
-        ∙ answer-done (issueCallTries key rounds roll contractor block right out) (1000 * right + contractor)
-        (issueCallNumber key rounds roll contractor block right out) e

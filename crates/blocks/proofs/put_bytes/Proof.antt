@@ -5,7 +5,7 @@ use Prim.Native.Nat.{_+_, _-_, _≤_}
 use native.Mathlib.Omega.{arith}
 use denote.Ref.{now}
 use lib.ListN.{length, take, drop}
-use Rattle.blocks.proofs.Put.{placed-none, placed-next, placed-all}
+use Rattle.block_bytes.proofs.Put.{placed-none, placed-next, placed-all}
 use borrow.Author.Needs.{needs}
 use Rattle.blocks.proofs.put_bytes.Statement.{statement}
 use Rattle.blocks.proofs.put_bytes.Tie as tie

@@ -11,9 +11,11 @@ use Rattle.refusal.specs.Reasons.{outcomeNumber}
 use Rattle.refusal.specs.Tries.{Try, first, NoneHolds, answered}
 use Rattle.refusal.proofs.Ladder.{all-passed, positive-refused}
 use Rattle.basics.proofs.Tests.{and-second}
-use Rattle.roll.specs.Roll.{countOf, rollLength, rollOf}
+use Rattle.roll.specs.Roll.{countOf}
+use Rattle.roll_bytes.specs.RollBytes.{rollLength, rollOf}
 use Rattle.grant.specs.Grants.{contractorIn, rightIn}
-use Rattle.grant.specs.Calls.{inputTries, openedGrant, plainTries, countNow}
+use Rattle.judging.specs.Judging.{inputTries, plainTries}
+use Rattle.checking.specs.Checking.{openedGrant, countNow}
 use Rattle.check_call.specs.CheckCall.{callCode}
 use Rattle.check_call.proofs.Codes.{contractor-most, call-refused, call-judged}
 use borrow.Author.Needs.{needs}

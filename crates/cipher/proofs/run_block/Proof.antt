@@ -9,7 +9,7 @@ use Rattle.refusal.specs.Tries.{Try, first, NoneHolds}
 use Rattle.refusal.proofs.Ladder.{then, all-passed, returns-refused, returns-done}
 use Rattle.settings.specs.Settings.{settingsTries}
 use Rattle.layers.specs.State.{State}
-use Rattle.blocks.specs.Blocks.{bytesOf}
+use Rattle.block_bytes.specs.Blocks.{bytesOf}
 use Rattle.engine.specs.Engine.{blockTries}
 use Rattle.engine.proofs.Blocks.{Block, a-block}
 use Rattle.cipher.specs.Cipher.{cipherTries, cipherBlock}

@@ -7,10 +7,10 @@ use denote.Ref.{now}
 use lib.ListN.{length, take}
 use lib.Seq.{length-take-le}
 use Rattle.rounds.specs.Rounds.{enciphered}
-use Rattle.blocks.specs.Blocks.{listStates}
-use Rattle.engine.specs.Engine.{listLength}
-use Rattle.lists.specs.Lists.{listFor}
-use Rattle.lists.proofs.Lists.{Allowed, allowed, fitting, read-back}
+use Rattle.block_bytes.specs.Blocks.{listStates}
+use Rattle.list_rounds.specs.ListRounds.{listLength}
+use Rattle.key_lists.specs.KeyLists.{listFor}
+use Rattle.key_lists.proofs.Lists.{Allowed, allowed, fitting, read-back}
 use Rattle.cipher.proofs.Accepted.{accepted}
 use borrow.Author.Needs.{needs}
 use Rattle.cipher.proofs.state_under.Statement.{statement}

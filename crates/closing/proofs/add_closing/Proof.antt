@@ -7,10 +7,10 @@ use denote.Ref.{now}
 use lib.ListN.{length, take, drop}
 use lib.Seq.{take-all}
 use Rattle.field.specs.Field.{_⊕_}
-use Rattle.schedule.specs.Columns.{plus}
-use Rattle.schedule.specs.Stages.{closingSum}
-use Rattle.schedule.proofs.Padded.{stage-length, length-plus}
-use Rattle.schedule.proofs.Stages.{closing-stage}
+use Rattle.stages.specs.Columns.{plus}
+use Rattle.stages.specs.Stages.{closingSum}
+use Rattle.stages.proofs.Padded.{stage-length, length-plus}
+use Rattle.stages.proofs.Stages.{closing-stage}
 use Rattle.closing.proofs.Sums.{sum-byte, byte-unwritten, byte-put}
 use borrow.Author.Needs.{needs}
 use Rattle.closing.proofs.add_closing.Statement.{statement}

@@ -10,8 +10,8 @@ use Rattle.field.specs.Field.{times, product, reduced}
 use Rattle.field.proofs.Computed.{all, passed}
 use Rattle.sbox.specs.Sbox.{sbox, tableP, tableQ}
 use Rattle.sizes.specs.Sizes.{Sized}
-use Rattle.schedule.specs.Columns.{columns, plus, padded, columnRule}
-use Rattle.schedule.specs.Stages.{moved, linearStep, constant, stage, zeros, closingSum}
+use Rattle.stages.specs.Columns.{columns, plus, padded, columnRule}
+use Rattle.stages.specs.Stages.{moved, linearStep, constant, stage, zeros, closingSum}
 use Rattle.period.proofs.Alike.{alike, alike-sound}
 use borrow.Author.Needs.{needs}
 use Rattle.closing.proofs.closing_sum.Statement.{statement}

@@ -6,8 +6,8 @@ use native.Mathlib.Numerals.{add-one}
 use native.Mathlib.Omega.{arith}
 use denote.Ref.{now}
 use lib.ListN.{drop}
-use Rattle.schedule.specs.Columns.{plus}
-use Rattle.schedule.specs.Stages.{constant}
+use Rattle.stages.specs.Columns.{plus}
+use Rattle.stages.specs.Stages.{constant}
 use Rattle.cycle.proofs.Addends.{addend-on, addend-last}
 use borrow.Author.Needs.{needs}
 use Rattle.cycle.proofs.add_addend.Statement.{statement}

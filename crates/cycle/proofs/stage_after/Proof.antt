@@ -4,9 +4,9 @@ use mathlib.Core.List.{List, _++_}
 use Prim.Native.Nat.{ℕ, _*_}
 use denote.Ref.{now}
 use lib.ListN.{length, drop}
-use Rattle.schedule.specs.Columns.{plus}
-use Rattle.schedule.specs.Stages.{linearStep}
-use Rattle.schedule.proofs.Padded.{length-plus, length-held, step-kept}
+use Rattle.stages.specs.Columns.{plus}
+use Rattle.stages.specs.Stages.{linearStep}
+use Rattle.stages.proofs.Padded.{length-plus, length-held, step-kept}
 use Rattle.cycle.specs.Cycle.{addend, stageAfter}
 use borrow.Author.Needs.{needs}
 use Rattle.cycle.proofs.stage_after.Statement.{statement}

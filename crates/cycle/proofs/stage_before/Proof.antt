@@ -5,9 +5,9 @@ use Prim.Native.Nat.{ℕ, _*_}
 use native.Mathlib.Omega.{arith}
 use denote.Ref.{now}
 use lib.ListN.{length, drop}
-use Rattle.schedule.specs.Columns.{plus}
-use Rattle.schedule.specs.Stages.{inverseStep}
-use Rattle.schedule.proofs.Padded.{length-held, plus-kept}
+use Rattle.stages.specs.Columns.{plus}
+use Rattle.stages.specs.Stages.{inverseStep}
+use Rattle.stages.proofs.Padded.{length-held, plus-kept}
 use Rattle.cycle.specs.Cycle.{preceding, addend, stageBefore}
 use Rattle.cycle.proofs.Addends.{preceding-below}
 use Rattle.inverse.proofs.Columns.{length-inverse}

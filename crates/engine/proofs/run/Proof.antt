@@ -9,8 +9,9 @@ use Rattle.refusal.specs.Tries.{Try, _unless_, first, NoneHolds}
 use Rattle.refusal.proofs.Ladder.{one-try, climbs-first, then, all-passed, returns-refused, returns-done}
 use Rattle.layers.specs.State.{State}
 use Rattle.rounds.specs.Rounds.{enciphered}
-use Rattle.blocks.specs.Blocks.{bytesOf, listStates}
-use Rattle.engine.specs.Engine.{listLength, blockTries, engineTries, engineBlock}
+use Rattle.block_bytes.specs.Blocks.{bytesOf, listStates}
+use Rattle.list_rounds.specs.ListRounds.{listLength}
+use Rattle.engine.specs.Engine.{blockTries, engineTries, engineBlock}
 use Rattle.engine.proofs.Blocks.{Block, a-block}
 use borrow.Author.Needs.{needs}
 use Rattle.engine.proofs.run.Statement.{statement}

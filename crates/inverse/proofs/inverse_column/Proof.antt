@@ -4,7 +4,7 @@ use mathlib.Core.List.{[], _∷_}
 use Prim.Native.Nat.{ℕ}
 use denote.Ref.{now}
 use Rattle.field.specs.Field.{_⊕_}
-use Rattle.schedule.specs.Columns.{cell, columns, columnRule}
+use Rattle.stages.specs.Columns.{cell, columns, columnRule}
 use borrow.Author.Needs.{needs}
 use Rattle.inverse.proofs.inverse_column.Statement.{statement}
 use Rattle.inverse.proofs.inverse_column.Tie as tie

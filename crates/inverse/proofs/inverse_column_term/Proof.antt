@@ -3,7 +3,7 @@ use mathlib.Core.Path.{ap, _∙_}
 use Prim.Native.Nat.{ℕ}
 use Rattle.field.specs.Field.{_⊕_}
 use Rattle.field.proofs.Addition.{byte}
-use Rattle.schedule.proofs.ColumnRule.{times-inverse}
+use Rattle.stages.proofs.ColumnRule.{times-inverse}
 use borrow.Author.Needs.{needs}
 use Rattle.inverse.proofs.inverse_column_term.Statement.{statement}
 use Rattle.inverse.proofs.inverse_column_term.Tie as tie

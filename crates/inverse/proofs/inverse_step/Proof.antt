@@ -4,10 +4,10 @@ use Prim.Native.Nat.{_-_, _*_, _%_, _≤_, _<_}
 use native.Mathlib.Nat.{mod-eq-of-lt}
 use native.Mathlib.Omega.{arith}
 use denote.Ref.{now}
-use Rattle.schedule.specs.Columns.{columns}
-use Rattle.schedule.specs.Stages.{previous}
-use Rattle.schedule.proofs.Places.{previous-around, previous-next}
-use Rattle.schedule.proofs.Written.{upto}
+use Rattle.stages.specs.Columns.{columns}
+use Rattle.stages.specs.Stages.{previous}
+use Rattle.stages.proofs.Places.{previous-around, previous-next}
+use Rattle.stages.proofs.Written.{upto}
 use Rattle.inverse.proofs.Columns.{ruledBack, steppedBack, read-after, column-back, all-back}
 use borrow.Author.Needs.{needs}
 use Rattle.inverse.proofs.inverse_step.Statement.{statement}

@@ -7,12 +7,13 @@ use lib.Dec.{leb}
 use lib.ListN.{length, drop}
 use borrow.Author.Tests.{leb-true}
 use Rattle.refusal.specs.Reasons.{outcomeNumber}
-use Rattle.refusal.specs.Tries.{Try, _unless_, first, NoneHolds}
+use Rattle.refusal.specs.Tries.{Try, _unless_, first}
 use Rattle.refusal.proofs.Ladder.{then, all-passed, returns-refused, returns-done}
 use Rattle.settings.specs.Settings.{settingsTries}
-use Rattle.blocks.specs.Blocks.{listBytes}
-use Rattle.lists.specs.Lists.{listFor, prepareTries, prepared}
-use Rattle.lists.proofs.Lists.{fitting, length-prepared}
+use Rattle.block_bytes.specs.Blocks.{listBytes}
+use Rattle.key_lists.specs.KeyLists.{listFor, prepared}
+use Rattle.lists.specs.Lists.{prepareTries}
+use Rattle.key_lists.proofs.Lists.{fitting, length-prepared}
 use borrow.Author.Needs.{needs}
 use Rattle.lists.proofs.prepare.Statement.{statement}
 use Rattle.lists.proofs.prepare.Tie as tie

@@ -11,9 +11,9 @@ use Rattle.refusal.specs.Tries.{Try, _unless_, first, NoneHolds}
 use Rattle.refusal.proofs.Ladder.{then, all-passed, returns-refused, returns-done}
 use Rattle.sizes.specs.Sizes.{tOf}
 use Rattle.layers.specs.State.{State}
-use Rattle.blocks.specs.Blocks.{bytesOf}
-use Rattle.schedule.specs.Stages.{stage, subkeyOf}
-use Rattle.holder.specs.Calls.{straightTries}
+use Rattle.block_bytes.specs.Blocks.{bytesOf}
+use Rattle.stages.specs.Stages.{stage, subkeyOf}
+use Rattle.holder_from_key.specs.FromKey.{straightTries}
 use Rattle.stage_calls.specs.StageCalls.{stageCallTries, subkeyCallOutput}
 use Rattle.stage_calls.proofs.Straight.{subkey-padded}
 use borrow.Author.Needs.{needs}

@@ -1,0 +1,38 @@
+-- What checking a grant on a roll answers: document 01, "Roll and grant" and the order line "check 1, 2, 3, 7, 8, 9, 10, 20, 23": what is
+-- tried of the input, then of the plain bytes.
+use mathlib.Core.List.{List, _++_}
+use Prim.Native.Nat.{ℕ}
+use lib.Dec.{eqb}
+use lib.ListN.{length}
+use Rattle.refusal.specs.Tries.{Try, first, answered}
+use Rattle.key_lists.specs.declared.Direction.the-variants.{Deciphering}
+use Rattle.cipher.specs.Cipher.{cipherBlock}
+use Rattle.roll.specs.declared.Roll.{Roll}
+use Rattle.roll.specs.Roll.{countOf}
+use Rattle.grant.specs.Grants.{contractorIn, rightIn}
+use Rattle.judging.specs.Judging.{inputTries, plainTries}
+
+-- the plain bytes of a grant
+unfoldable pub openedGrant : List ℕ → ℕ → List ℕ → List ℕ
+openedGrant key rounds grant = cipherBlock Deciphering key rounds grant
+
+-- the roll's count of the contractor whom a grant names
+abbrev pub countNow : List ℕ → ℕ → Roll → List ℕ → ℕ
+countNow key rounds roll grant = countOf roll (contractorIn (openedGrant key rounds grant))
+
+abbrev pub checkTries : List ℕ → ℕ → Roll → List ℕ → ℕ → ℕ → List Try
+checkTries key rounds roll grant size-block right =
+    inputTries (length key) rounds (eqb (length grant) 12) right
+    ++ plainTries (openedGrant key rounds grant) (countNow key rounds roll grant) size-block right
+
+abbrev pub checkNumber : List ℕ → ℕ → Roll → List ℕ → ℕ → ℕ → ℕ
+checkNumber key rounds roll grant size-block right = first (checkTries key rounds roll grant size-block right)
+
+-- an accepted check answers with contractor and right
+unfoldable pub checkContractor : List ℕ → ℕ → Roll → List ℕ → ℕ → ℕ → ℕ
+checkContractor key rounds roll grant size-block right =
+    answered (checkNumber key rounds roll grant size-block right) (contractorIn (openedGrant key rounds grant)) 0
+
+unfoldable pub checkRight : List ℕ → ℕ → Roll → List ℕ → ℕ → ℕ → ℕ
+checkRight key rounds roll grant size-block right =
+    answered (checkNumber key rounds roll grant size-block right) (rightIn (openedGrant key rounds grant)) 0

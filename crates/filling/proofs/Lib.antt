@@ -1,0 +1,4 @@
+pub mod Keys
+pub mod Filled
+pub mod Filling
+pub mod Turned

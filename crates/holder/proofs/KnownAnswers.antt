@@ -1,9 +1,0 @@
--- The known answers: each is computed from the definitions.
-use mathlib.Core.Path.{refl}
-use Rattle.basics.specs.Cases.{Hold}
-use Rattle.holder.specs.Holder.{ringDistance, wayTo}
-use Rattle.holder.specs.KnownAnswers.{knownAnswers}
-
-pub known-answers : Hold knownAnswers
-unfolding knownAnswers ringDistance wayTo
-known-answers = (refl, (refl, (refl, (refl, (refl, (refl, (refl, (refl, (refl, (refl, (refl, tt)))))))))))

@@ -1,0 +1,77 @@
+-- `issue_call::issue` meets its contract.
+use mathlib.Core.Path.{_≡_, refl, ap, _∙_}
+use mathlib.Core.List.{List, _++_}
+use Prim.Native.Nat.{ℕ}
+use denote.Ref.{now}
+use lib.ListN.{length, drop}
+use borrow.Author.Tests.{leb-true}
+use Rattle.refusal.specs.Reasons.{outcomeNumber}
+use Rattle.refusal.specs.Tries.{Try, first, after}
+use Rattle.refusal.proofs.Ladder.{then, all-passed, returns-refused, returns-done}
+use Rattle.settings.specs.Settings.{settingsTries}
+use Rattle.key_lists.specs.declared.Direction.the-variants.{Enciphering}
+use Rattle.cipher.specs.Cipher.{cipherBlock}
+use Rattle.roll.specs.Roll.{countOf}
+use Rattle.roll_bytes.specs.RollBytes.{rollOf, rollTries}
+use Rattle.grant.specs.Grants.{plainGrant}
+use Rattle.issuing.specs.Issuing.{wantedTries, issuedGrant}
+use Rattle.issue_call.specs.IssueCall.{issueCallTries, issueCallOutput}
+use borrow.Author.Needs.{needs}
+use Rattle.issue_call.proofs.issue.Statement.{statement}
+use Rattle.issue_call.proofs.issue.Tie as tie
+
+abbrev start : tie.After-is-refused → tie.Start
+start c = let k = c .before .before .before .before in k .before .before .before .before
+
+abbrev tries : tie.Start → List Try
+tries s = let a = s .args in issueCallTries (now (a .key)) (a .rounds) (now (a .roll)) (a .contractor) (a .size-block) (a .right) (now (a .out))
+
+abbrev grant : tie.Start → List ℕ
+grant s = let a = s .args in issuedGrant (now (a .key)) (a .rounds) (rollOf (now (a .roll))) (a .contractor) (a .size-block) (a .right)
+
+tried : (c : tie.After-is-refused) → outcomeNumber (c .before .try-issue .result) ≡ first (tries (start c))
+tried c =
+    let a = start c .args in
+    let settings = settingsTries (length (now (a .key))) (a .rounds) in
+    let long = rollTries (length (now (a .roll))) in
+    let wanted = wantedTries (length (now (a .out))) (a .contractor) (a .right) (countOf (rollOf (now (a .roll))) (a .contractor)) in
+    let r = c .before .before .before in
+    then _ _ (settings ++ long) wanted refl (then _ _ settings long refl (r .before .try-settings .ensures) (r .try-roll .ensures))
+    (c .before .try-issue .ensures
+    ∙ ap (λ (n : ℕ). after (outcomeNumber (r .try-roll .result)) (wantedTries (length (now (a .out))) (a .contractor) (a .right) n))
+    (c .before .before .count-in .ensures))
+
+returns : tie.Need-returns
+unfolding issueCallOutput
+returns c =
+    let k = c .before .before in
+    let s = start k in
+    let r = returns-refused _ (tries s) (tried k) _ (k .is-refused .ensures) (grant s) (now (s .args .out)) (c .before .if1 .taken) in
+    (c .outcome-number .ensures ∙ r .0, r .1)
+
+write-grant-requires : tie.Need-write-grant-requires
+write-grant-requires c κs =
+    let k = c .before .before in
+    let p = all-passed _ (tries (start k)) (tried k) _ (k .is-refused .ensures) refl (c .before .if1 .left) in
+    record { key = p .0; round-count = p .1 .0; asked = p .1 .1 .1 .1 .1 .0; fits = leb-true _ _ (p .1 .1 .1 .0) }
+
+returns-2 : tie.Need-returns-2
+unfolding issueCallOutput issuedGrant cipherBlock
+returns-2 c =
+    let w = c .before .before in
+    let d = w .before .before in
+    let k = d .before in
+    let s = start k in
+    let a = s .args in
+    let r = returns-done _ (tries s) (tried k) _ (k .is-refused .ensures) (grant s) (now (a .out)) (d .if1 .left) in (
+      r .0,
+      w .write-grant .ensures
+          ∙ ap (λ (m : ℕ). cipherBlock Enciphering (now (a .key)) (a .rounds) (plainGrant (a .contractor) m (a .size-block) (a .right)) ++ drop 12
+          (now (a .out)))
+          (k .before .before .count-in .ensures) ∙ r .1,
+    )
+
+pub issue-spec : {M : Type 1} → statement M
+issue-spec =
+    tie.close (tie.spec (λ c κs. search needs) (λ c κs. search needs) (λ c κs. search needs) (λ c κs. search needs)
+    (λ c κs. search needs) (λ c κs. search needs) returns write-grant-requires (λ c. search needs) returns-2)

@@ -1,0 +1,71 @@
+-- `issuing::issue` meets its contract.
+use mathlib.Core.Path.{_≡_, refl, ap, _∙_}
+use mathlib.Core.List.{List, _++_}
+use Prim.Native.Nat.{ℕ}
+use denote.Ref.{now}
+use lib.ListN.{length, drop}
+use borrow.Author.Tests.{leb-true}
+use Rattle.refusal.specs.Reasons.{outcomeNumber}
+use Rattle.refusal.specs.Tries.{Try, first, after}
+use Rattle.refusal.proofs.Ladder.{then, all-passed, returns-refused, returns-done}
+use Rattle.settings.specs.Settings.{settingsTries}
+use Rattle.key_lists.specs.declared.Direction.the-variants.{Enciphering}
+use Rattle.cipher.specs.Cipher.{cipherBlock}
+use Rattle.roll.specs.Roll.{countOf}
+use Rattle.grant.specs.Grants.{plainGrant}
+use Rattle.issuing.specs.Issuing.{wantedTries, issueTries, issuedGrant, issueOutput}
+use borrow.Author.Needs.{needs}
+use Rattle.issuing.proofs.issue.Statement.{statement}
+use Rattle.issuing.proofs.issue.Tie as tie
+
+abbrev start : tie.After-is-refused → tie.Start
+start c = let k = c .before .before .before in k .before .before .before
+
+abbrev tries : tie.Start → List Try
+tries s = let a = s .args in issueTries (now (a .key)) (a .rounds) (a .roll) (a .contractor) (a .size-block) (a .right) (now (a .out))
+
+abbrev grant : tie.Start → List ℕ
+grant s = let a = s .args in issuedGrant (now (a .key)) (a .rounds) (a .roll) (a .contractor) (a .size-block) (a .right)
+
+tried : (c : tie.After-is-refused) → outcomeNumber (c .before .try-issue .result) ≡ first (tries (start c))
+tried c =
+    let a = start c .args in
+    let wanted = wantedTries (length (now (a .out))) (a .contractor) (a .right) (countOf (a .roll) (a .contractor)) in
+    then _ _ (settingsTries (length (now (a .key))) (a .rounds)) wanted refl (c .before .before .try-settings .ensures)
+    (c .before .try-issue .ensures
+    ∙ ap (λ (n : ℕ). after (outcomeNumber (c .before .before .try-settings .result)) (wantedTries (length (now (a .out))) (a .contractor) (a .right) n))
+    (c .before .before .before .count-of .ensures))
+
+returns : tie.Need-returns
+unfolding issueOutput
+returns c =
+    let k = c .before in
+    let s = start k in
+    returns-refused _ (tries s) (tried k) _ (k .is-refused .ensures) (grant s) (now (s .args .out)) (c .if1 .taken)
+
+write-grant-requires : tie.Need-write-grant-requires
+write-grant-requires c κs =
+    let k = c .before .before in
+    let p = all-passed _ (tries (start k)) (tried k) _ (k .is-refused .ensures) refl (c .before .if1 .left) in
+    record { key = p .0; round-count = p .1 .0; asked = p .1 .1 .1 .1 .0; fits = leb-true _ _ (p .1 .1 .0) }
+
+returns-2 : tie.Need-returns-2
+unfolding issueOutput issuedGrant cipherBlock
+returns-2 c =
+    let w = c .before .before in
+    let d = w .before .before in
+    let k = d .before in
+    let s = start k in
+    let a = s .args in
+    let r = returns-done _ (tries s) (tried k) _ (k .is-refused .ensures) (grant s) (now (a .out)) (d .if1 .left) in
+    let n = k .before .before .before .count-of .ensures in (
+      r .0,
+      w .write-grant .ensures
+          ∙ ap (λ (m : ℕ). cipherBlock Enciphering (now (a .key)) (a .rounds) (plainGrant (a .contractor) m (a .size-block) (a .right)) ++ drop 12
+          (now (a .out))) n ∙ r .1,
+    )
+
+pub issue-spec : {M : Type 1} → statement M
+issue-spec =
+    tie.close (tie.spec (λ c κs. search needs) (λ c κs. search needs) (λ c κs. search needs) (λ c κs. search needs)
+    returns write-grant-requires (λ c. search needs) returns-2)

@@ -1,0 +1,3 @@
+pub mod Issuing
+pub mod ForProver
+pub mod KnownAnswers

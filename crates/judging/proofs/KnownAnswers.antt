@@ -1,0 +1,11 @@
+-- The known answers: each is computed from the definitions.
+use mathlib.Core.Path.{refl}
+use Rattle.basics.specs.Cases.{Hold}
+use Rattle.refusal.specs.Tries.{first}
+use Rattle.roll.specs.Roll.{emptyRoll, countOf, inStanding}
+use Rattle.grant.specs.Grants.{contractorIn, countIn, sizeBlockIn, isMarked, isGrant}
+use Rattle.judging.specs.KnownAnswers.{knownAnswers}
+
+pub known-answers : Hold knownAnswers
+unfolding knownAnswers first emptyRoll countOf inStanding contractorIn countIn sizeBlockIn isMarked isGrant
+known-answers = (refl, (refl, (refl, (refl, tt))))

@@ -1,0 +1,64 @@
+// What is tried of a grant that is checked: the input, and the grant's plain bytes. The check on a roll by value, the one on its bytes, and
+// whatever checks several grants are made of these parts.
+
+ghost use mathlib.Core.Path.{_≡_};
+ghost use Rattle.refusal.specs.Reasons.{outcomeNumber};
+ghost use Rattle.refusal.specs.Tries.{first, after, answered};
+ghost use Rattle.grant.specs.Grants.{contractorIn, rightIn, verdictNumber, verdictContractor, verdictRight};
+ghost use Rattle.judging.specs.Judging.{inputTries, askedTries, standingTries, plainTries};
+use grant::Grant;
+use grant::Verdict;
+use grant::contractor_in;
+use grant::count_in;
+use grant::is_grant;
+use grant::is_right;
+use grant::right_in;
+use grant::right_of;
+use grant::size_block_in;
+use refusal::Outcome;
+use refusal::Reason;
+use refusal::unless;
+
+// Settings, lengths, and the right that is asked for.
+pub fn try_input(n: usize, rounds: u32, lengths: bool, right: u32) -> Outcome
+    ensures { λ r. ⌜ outcomeNumber r ≡ first (inputTries n rounds lengths right) ⌝ }
+{
+    let settings = settings::try_settings(n, rounds);
+    let whole = unless(settings, Reason::InputLength, lengths);
+    unless(whole, Reason::UnknownRight, is_right(right))
+}
+
+// What was asked for: the size block, then the right.
+pub fn try_asked(prior: Outcome, p: &[u8; 12], size_block: u32, right: u32) -> Outcome
+    ensures { λ r. ⌜ outcomeNumber r ≡ after (outcomeNumber prior) (askedTries (now (p .entry)) «size_block» right) ⌝ }
+{
+    let block = unless(prior, Reason::OtherBlock, size_block_in(p) == size_block);
+    unless(block, Reason::OtherRight, right_in(p) == right)
+}
+
+// The contractor's standing, then that it is the one written in the grant.
+pub fn try_standing(prior: Outcome, p: &[u8; 12], count: u16) -> Outcome
+    ensures { λ r. ⌜ outcomeNumber r ≡ after (outcomeNumber prior) (standingTries (now (p .entry)) count) ⌝ }
+{
+    let stands = unless(prior, Reason::NotInStanding, roll::is_in_standing(count));
+    unless(stands, Reason::OtherCount, count_in(p) == count)
+}
+
+// The verdict on a grant's plain bytes, where the roll has this count for its contractor.
+pub fn judge(p: &[u8; 12], count: u16, size_block: u32, right: u32) -> Verdict
+    ensures { λ r. ⌜ verdictNumber r ≡ first (plainTries (now (p .entry)) count «size_block» right) ⌝ }
+    ensures { λ r. ⌜ verdictContractor r ≡ answered (first (plainTries (now (p .entry)) count «size_block» right))
+        (contractorIn (now (p .entry))) 0 ⌝ }
+    ensures { λ r. ⌜ verdictRight r ≡ answered (first (plainTries (now (p .entry)) count «size_block» right)) (rightIn (now (p .entry))) 0 ⌝ }
+{
+    let whole = unless(Outcome::Done, Reason::NotAGrant, is_grant(p));
+    let asked = try_asked(whole, p, size_block, right);
+    let tried = try_standing(asked, p, count);
+    if let Outcome::Refused(reason) = tried {
+        return Verdict::Refused(reason);
+    }
+    Verdict::Opens(Grant {
+        contractor: contractor_in(p),
+        right: right_of(right),
+    })
+}

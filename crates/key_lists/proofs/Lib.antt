@@ -1,0 +1,3 @@
+pub mod Lists
+pub mod Claims
+pub mod KnownAnswers

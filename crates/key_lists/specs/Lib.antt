@@ -1,0 +1,4 @@
+pub mod KeyLists
+pub mod Claims
+pub mod ForProver
+pub mod KnownAnswers

@@ -1,0 +1,59 @@
+-- Lent lists: their lengths, their subkeys, and the rounds one subkey after the other.
+use mathlib.Core.Path.{_≡_, refl, sym, ap, _∙_}
+use mathlib.Core.Bool.{true, _&&_}
+use mathlib.Core.List.{List, [], _∷_}
+use Prim.Native.Nat.{ℕ, suc, _+_, _-_, _*_, _/_, _%_, _≤_, _<_}
+use native.Mathlib.Omega.{arith}
+use lib.Dec.{leb, eqb}
+use lib.ListN.{length, getD, take, drop}
+use lib.Seq.{drop-cons, drop-length}
+use borrow.Author.Tests.{leb-true, eqb-true}
+use Rattle.basics.proofs.Tests.{and-first, and-second}
+use Rattle.layers.specs.State.{State}
+use Rattle.layers.specs.Layers.{added}
+use Rattle.rounds.specs.Rounds.{round, lastRound, rounds, enciphered}
+use Rattle.block_bytes.specs.Blocks.{stateOf, listStates}
+use Rattle.block_bytes.proofs.Lists.{state-at}
+use Rattle.list_rounds.specs.ListRounds.{listLength}
+
+-- ---- the test of a list's length
+-- what it says where it is passed
+pub record Whole (n : ℕ) : Type 0 where
+  pub least : 132 ≤ n
+  pub most : n ≤ 288
+  pub twelves : n % 12 ≡ 0
+
+pub whole : (n : ℕ) → listLength n ≡ true → Whole n
+whole n e =
+    let later = and-second (leb 132 n) (leb n 288 && eqb (n % 12) 0) e in
+    record {
+      least = leb-true 132 n (and-first (leb 132 n) (leb n 288 && eqb (n % 12) 0) e);
+      most = leb-true n 288 (and-first (leb n 288) (eqb (n % 12) 0) later);
+      twelves = eqb-true (n % 12) 0 (and-second (leb n 288) (eqb (n % 12) 0) later);
+    }
+
+-- ---- a subkey, as the code reads it
+pub subkey-read : (list : List ℕ) (r : ℕ) (k : State) → r < length list / 12 → k ≡ stateOf (take (12 * r + 12 - 12 * r) (drop (12 * r) list))
+    → k ≡ getD (listStates list) r []
+subkey-read list r k h e =
+    let z : 12 * r + 12 - 12 * r ≡ 12 = omega arith in
+    e ∙ ap (λ (m : ℕ). stateOf (take m (drop (12 * r) list))) z ∙ sym (state-at list r h)
+
+-- ---- the rounds from subkey r on
+module _ (ks : List State) (r : ℕ) (a : State) where
+  pub round-on : suc r < length ks → rounds (drop r ks) a ≡ rounds (drop (suc r) ks) (round (getD ks r []) a)
+  unfolding rounds
+  round-on h =
+      ap (λ (l : List State). rounds l a) (drop-cons ks r [] (omega arith) ∙ ap {B = List State} (λ l. getD ks r [] ∷ l) (drop-cons ks (suc r) [] h))
+      ∙ sym (ap (λ (l : List State). rounds l (round (getD ks r []) a)) (drop-cons ks (suc r) [] h))
+
+  pub round-last : suc r ≡ length ks → rounds (drop r ks) a ≡ lastRound (getD ks r []) a
+  unfolding rounds
+  round-last e =
+      ap (λ (l : List State). rounds l a)
+      (drop-cons ks r [] (omega arith) ∙ ap {B = List State} (λ l. getD ks r [] ∷ l) (ap (λ (m : ℕ). drop m ks) e ∙ drop-length ks))
+
+pub whitened : (ks : List State) (a : State) → 0 < length ks → enciphered ks a ≡ rounds (drop 1 ks) (added (getD ks 0 []) a)
+unfolding enciphered
+whitened [] a h = let z : ⊥ = omega arith in absurd z
+whitened (k ∷ ks) a h = refl

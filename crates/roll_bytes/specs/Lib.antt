@@ -1,0 +1,4 @@
+pub mod RollBytes
+pub mod ForProver
+pub mod Lemmas
+pub mod KnownAnswers
