@@ -15,8 +15,8 @@ change-requires c κs =
     let n = k .before in
     let r = n .before .before in
     let a = r .before .before .args in
-    countable (enterTries (a .contractor)) (a .contractor) (now (a .roll)) _ _ _ (r .try-roll .ensures) (n .count-in .ensures) (k .try-enter .ensures) refl
-    (may-enter (a .contractor))
+    countable (enterTries (a .contractor)) (a .contractor) (now (a .roll)) _ _ _ (r .try-roll .ensures) (n .count-in .ensures) (k .try-enter .ensures)
+    refl (may-enter (a .contractor))
 
 returns : tie.Need-returns
 unfolding enterCallRoll enteredRoll
@@ -27,8 +27,8 @@ returns c =
     let r = n .before .before in
     let a = r .before .before .args in
     let e = g .change .ensures in
-    changed (enterTries (a .contractor)) (a .contractor) (now (a .roll)) _ _ _ (r .try-roll .ensures) (n .count-in .ensures) (k .try-enter .ensures) refl
-    _ _ (e .0) (e .1)
+    changed (enterTries (a .contractor)) (a .contractor) (now (a .roll)) _ _ _ (r .try-roll .ensures) (n .count-in .ensures) (k .try-enter .ensures)
+    refl _ _ (e .0) (e .1)
 
 pub enter-spec : {M : Type 1} → statement M
 enter-spec =

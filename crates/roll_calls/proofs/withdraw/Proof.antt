@@ -15,8 +15,8 @@ change-requires c κs =
     let n = k .before in
     let r = n .before .before in
     let a = r .before .before .args in
-    countable (withdrawTries (a .contractor)) (a .contractor) (now (a .roll)) _ _ _ (r .try-roll .ensures) (n .count-in .ensures) (k .try-withdraw .ensures) refl
-    (may-withdraw (a .contractor))
+    countable (withdrawTries (a .contractor)) (a .contractor) (now (a .roll)) _ _ _ (r .try-roll .ensures) (n .count-in .ensures) (k .try-withdraw .ensures)
+    refl (may-withdraw (a .contractor))
 
 returns : tie.Need-returns
 unfolding withdrawCallRoll withdrawnRoll
@@ -27,8 +27,8 @@ returns c =
     let r = n .before .before in
     let a = r .before .before .args in
     let e = g .change .ensures in
-    changed (withdrawTries (a .contractor)) (a .contractor) (now (a .roll)) _ _ _ (r .try-roll .ensures) (n .count-in .ensures) (k .try-withdraw .ensures) refl
-    _ _ (e .0) (e .1)
+    changed (withdrawTries (a .contractor)) (a .contractor) (now (a .roll)) _ _ _ (r .try-roll .ensures) (n .count-in .ensures) (k .try-withdraw .ensures)
+    refl _ _ (e .0) (e .1)
 
 pub withdraw-spec : {M : Type 1} → statement M
 withdraw-spec =
