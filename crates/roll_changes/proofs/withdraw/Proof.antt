@@ -1,49 +1,38 @@
 -- `roll_changes::withdraw` meets its contract.
-use mathlib.Core.Path.{_≡_, refl, ap, _∙_}
-use mathlib.Core.List.{List}
-use Prim.Native.Nat.{ℕ}
-use Rattle.refusal.specs.Reasons.{outcomeNumber}
-use Rattle.refusal.specs.Tries.{Try, first, after}
-use Rattle.refusal.proofs.Ladder.{after-zero, all-passed, answers-refused, answers-done}
-use Rattle.roll.specs.Roll.{countOf, counted}
+use mathlib.Core.Path.{refl}
+use Rattle.roll.specs.Roll.{countOf}
 use Rattle.roll_changes.specs.Changes.{withdrawTries, withdrawnRoll}
-use Rattle.roll_changes.proofs.Changes.{may-withdraw}
+use Rattle.roll_changes.proofs.Changes.{refused, done, passed, may-withdraw}
 use borrow.Author.Needs.{needs}
 use Rattle.roll_changes.proofs.withdraw.Statement.{statement}
 use Rattle.roll_changes.proofs.withdraw.Tie as tie
-
-abbrev tries : tie.Start → List Try
-tries s = withdrawTries (s .args .contractor) (countOf (s .args .roll) (s .args .contractor))
-
-tried : (c : tie.After-is-refused) → outcomeNumber (c .before .try-withdraw .result) ≡ first (tries (c .before .before .before))
-tried c =
-    let s = c .before .before .before in
-    c .before .try-withdraw .ensures ∙ ap (λ (n : ℕ). after 0 (withdrawTries (s .args .contractor) n)) (c .before .before .count-of .ensures)
-    ∙ after-zero 0 (tries s) refl
 
 returns : tie.Need-returns
 unfolding withdrawnRoll
 returns c =
     let k = c .before in
-    let s = k .before .before .before in
-    let a = s .args in
-    (tried k, answers-refused _ (tries s) (tried k) _ (k .is-refused .ensures) (counted (a .roll) (a .contractor)) (a .roll) (c .if1 .taken))
+    let t = k .before in
+    let a = t .before .before .args in
+    refused (withdrawTries (a .contractor)) (a .roll) (a .contractor) _ _ _ (t .before .count-of .ensures) (t .try-withdraw .ensures) (k .is-refused .ensures)
+    (c .if1 .taken)
 
 add-one-requires : tie.Need-add-one-requires
 add-one-requires c κs =
     let k = c .before in
-    let s = k .before .before .before in
-    may-withdraw (s .args .contractor) (countOf (s .args .roll) (s .args .contractor))
-    (all-passed _ (tries s) (tried k) _ (k .is-refused .ensures) refl (c .if1 .left))
+    let t = k .before in
+    let a = t .before .before .args in
+    may-withdraw (a .contractor) (countOf (a .roll) (a .contractor))
+    (passed (withdrawTries (a .contractor)) (a .roll) (a .contractor) _ _ _ (t .before .count-of .ensures) (t .try-withdraw .ensures) (k .is-refused .ensures)
+    refl (c .if1 .left))
 
 returns-2 : tie.Need-returns-2
 unfolding withdrawnRoll
 returns-2 c =
     let k = c .before .before in
-    let s = k .before .before .before in
-    let a = s .args in
-    let d = answers-done _ (tries s) (tried k) _ (k .is-refused .ensures) (counted (a .roll) (a .contractor)) (a .roll) (c .before .if1 .left) in
-    (tried k, c .add-one .ensures ∙ d)
+    let t = k .before in
+    let a = t .before .before .args in
+    done (withdrawTries (a .contractor)) (a .roll) (a .contractor) _ _ _ (t .before .count-of .ensures) (t .try-withdraw .ensures) (k .is-refused .ensures)
+    (c .before .if1 .left) _ (c .add-one .ensures)
 
 pub withdraw-spec : {M : Type 1} → statement M
 withdraw-spec =
