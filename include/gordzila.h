@@ -7,14 +7,14 @@
  * Rules for every call:
  *  - Bytes are lent as a pointer and a length. The pointer is never null, also where the length is 0, and points to at
  *    least as many bytes as the length says. The library keeps no pointer after the call.
- *  - What a call writes to (out, or the roll that it enters or withdraws on) overlaps nothing else that is lent to it. What it
- *    only reads may overlap.
+ *  - What a call writes to (out, the roll that it enters or withdraws on, or the holder that it steps or walks) overlaps nothing
+ *    else that is lent to it. What it only reads may overlap.
  *  - A call takes any lengths and numbers. Where they are wrong, it refuses with a number and writes nothing. Where more than
  *    one reason holds, it gives the first in the order that stands with the call.
- *  - Every call but gordzila_check returns 0 where it does not refuse. gordzila_check never returns 0: its answers are 1 to 23,
- *    or 1001 and more.
+ *  - Every call but gordzila_check and gordzila_holder_walk returns 0 where it does not refuse. These two never return 0: a refusal
+ *    is 1 to 24, and any other answer 1000 or more.
  *  - Where it does not refuse, it writes the bytes that are said below, from the start of out, and no byte after them; entering
- *    and withdrawing write the roll's 400 bytes.
+ *    and withdrawing write the roll's 400 bytes, steps and walks the holder's 26.
  *  - A withdrawal is seen only on the roll on which it was made. Hand gordzila_check the roll as it is now: on an older copy, or
  *    on a roll that starts anew from zeros, grants that were revoked may open.
  *  - The calls have no state of their own and may be made from any thread. While a call writes to bytes, no other call may have
@@ -33,7 +33,7 @@
 extern "C" {
 #endif
 
-/* Reasons for which a call refuses. No call of this header has a key holder, so none gives 24. */
+/* Reasons for which a call refuses. */
 enum {
     /* found in the input */
     GORDZILA_KEY_LENGTH = 1,       /* key not 12, 18 or 24 bytes */
@@ -51,7 +51,7 @@ enum {
     GORDZILA_IN_STANDING = 21,     /* entering someone in standing */
     GORDZILA_COUNT_SPENT = 22,     /* entering at count 65,534 or 65,535 */
     GORDZILA_OTHER_COUNT = 23,     /* the grant's count differs from the roll's */
-    GORDZILA_BROKEN_HOLDER = 24    /* key holder with a wrong length, number or bytes past the key */
+    GORDZILA_BROKEN_HOLDER = 24    /* holder not 26 bytes, or not whole: a wrong key length, a stage number that is not below it, or bytes past it */
 };
 
 /* Rights. */
@@ -60,6 +60,7 @@ enum { GORDZILA_READING = 1, GORDZILA_OVERWRITING = 2 };
 /* Lengths in bytes. */
 enum { GORDZILA_BLOCK_BYTES = 12, GORDZILA_GRANT_BYTES = 12, GORDZILA_ROLL_BYTES = 400 };
 enum { GORDZILA_STAGE_BYTES = 24, GORDZILA_SUBKEY_BYTES = 12, GORDZILA_LONGEST_LIST_BYTES = 288 };
+enum { GORDZILA_HOLDER_BYTES = 26 };
 
 /*
  * Checks a grant for one size block and one right.
@@ -125,6 +126,36 @@ uint32_t gordzila_run(const uint8_t *list, size_t list_length, const uint8_t *bl
  */
 uint32_t gordzila_stage(const uint8_t *key, size_t key_length, uint32_t n, uint8_t *out, size_t out_length);
 uint32_t gordzila_subkey(const uint8_t *key, size_t key_length, uint32_t n, uint8_t *out, size_t out_length);
+
+/*
+ * The key holder: one stage of a key, in 26 bytes that the host keeps. They are the key's length, the stage's number, and the 24 bytes
+ * of the stage with zeros past the key's length. A holder of other bytes, or not of 26, is refused with 24. Steps lead from any stage to
+ * stage 0, so these bytes are as secret as the key.
+ *
+ * Make a holder of a key at stage 0: 26 bytes to out. Order: 1, 4.
+ */
+uint32_t gordzila_holder_make(const uint8_t *key, size_t key_length, uint8_t *out, size_t out_length);
+
+/*
+ * Step the holder to the next stage, and from the last to stage 0; or to the stage before, and from stage 0 to the last. As many steps
+ * on end as the key has bytes, all forward or all back, bring the same 26 bytes again. Order: 24.
+ */
+uint32_t gordzila_holder_forward(uint8_t *holder, size_t holder_length);
+uint32_t gordzila_holder_back(uint8_t *holder, size_t holder_length);
+
+/*
+ * Walk the holder to stage n, the shorter way; forward where both are as long. Returns the number of the first reason that holds: 24, 5.
+ * Otherwise the answer is the number of steps, plus 1,000 if they went forward, 2,000 if back; 1000 if the holder was there already.
+ */
+uint32_t gordzila_holder_walk(uint8_t *holder, size_t holder_length, uint32_t n);
+
+/* Of an answer of gordzila_holder_walk: whether the holder walked, and if so how many steps, and whether back; 0 where it refused. */
+static inline int gordzila_walked(uint32_t answer) { return answer >= 1000; }
+static inline uint32_t gordzila_walked_steps(uint32_t answer) { return gordzila_walked(answer) ? answer % 1000 : 0; }
+static inline int gordzila_walked_back(uint32_t answer) { return answer >= 2000; }
+
+/* The subkey of the stage that the holder is at: 12 bytes to out. Order: 24, 4. */
+uint32_t gordzila_holder_subkey(const uint8_t *holder, size_t holder_length, uint8_t *out, size_t out_length);
 
 #ifdef __cplusplus
 }

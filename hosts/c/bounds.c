@@ -1,27 +1,10 @@
 /*
- * Lends every buffer of every call between two pages that may not be touched: once so that it ends where the second begins, once so
- * that it begins where the first ends. A read or a write beside a lent buffer stops the program. Lengths and numbers lie on both sides
- * of each limit; the answer has to be the first reason in the header's order that holds, and nothing may change but what a call that
- * does not refuse writes. Prints how many calls did so; the status is 1 where one did not.
+ * Lends every buffer of every call, but of those on a key holder (holder_bounds.c), between two pages that may not be touched:
+ * once right after the first, once right before the second (guard.h). Lengths and numbers lie on both sides of each limit; the
+ * answer has to be the first reason in the header's order that holds, and nothing may change but what a call that does not refuse
+ * writes. Prints how many calls did so; the status is 1 where one did not.
  */
-#define _DEFAULT_SOURCE
-#include <stdio.h>
-#include <stdlib.h>
-#include <string.h>
-#include <sys/mman.h>
-#include <unistd.h>
-
-#include "gordzila.h"
-
-/* Bytes that are lent, and what stood there before the call. */
-struct lent {
-    uint8_t *page;
-    uint8_t *at;
-    size_t length;
-    uint8_t before[512];
-};
-
-#define COUNT(list) (sizeof(list) / sizeof(list)[0])
+#include "guard.h"
 
 static const size_t key_lengths[] = {0, 1, 11, 12, 13, 17, 18, 19, 23, 24, 25};
 static const uint32_t round_counts[] = {0, 9, 10, 11, 12, 13, 14, 17, 18, 23, 24, 266, 0xffffffffu};
@@ -33,34 +16,6 @@ static const uint32_t rights[] = {0, 1, 2, 3, 258};
 static const uint32_t stages[] = {0, 1, 11, 12, 17, 18, 23, 24, 256, 0xffffffffu};
 
 static struct lent key, input, roll, out;
-static size_t page_size;
-static int at_the_end;
-static unsigned long agreed, differed;
-
-static void make_room(struct lent *l) {
-    uint8_t *at = mmap(NULL, 3 * page_size, PROT_NONE, MAP_PRIVATE | MAP_ANONYMOUS, -1, 0);
-    if (at == MAP_FAILED || mprotect(at + page_size, page_size, PROT_READ | PROT_WRITE) != 0) {
-        perror("bounds");
-        exit(2);
-    }
-    l->page = at + page_size;
-}
-
-static void lend(struct lent *l, const uint8_t *bytes, size_t length) {
-    l->at = at_the_end ? l->page + page_size - length : l->page;
-    l->length = length;
-    memcpy(l->at, bytes, length);
-    memcpy(l->before, bytes, length);
-}
-
-/* Any bytes will do for a key, a block or a list. */
-static void lend_any(struct lent *l, size_t length) {
-    uint8_t bytes[512];
-    for (size_t i = 0; i < length; i++) {
-        bytes[i] = (uint8_t)(37 * i + length);
-    }
-    lend(l, bytes, length);
-}
 
 /* A roll on which contractor 7 alone is in standing, cut or made longer. */
 static void lend_roll(size_t length) {
@@ -68,25 +23,6 @@ static void lend_roll(size_t length) {
     memset(bytes, 0, sizeof bytes);
     bytes[13] = 1;
     lend(&roll, bytes, length);
-}
-
-static int changed(const struct lent *l, size_t from) {
-    return l->length > from && memcmp(l->at + from, l->before + from, l->length - from) != 0;
-}
-
-/* A call answered; on success it may have written so many bytes of its output. */
-static void judge(const char *call, uint32_t got, uint32_t expected, struct lent *output, size_t written) {
-    struct lent *all[] = {&key, &input, &roll, &out};
-    int wrong = got != expected;
-    for (size_t i = 0; i < COUNT(all); i++) {
-        wrong |= changed(all[i], all[i] == output && got == 0 ? written : 0);
-    }
-    if (wrong) {
-        differed++;
-        printf("%s: got %u, expected %u\n", call, (unsigned)got, (unsigned)expected);
-    } else {
-        agreed++;
-    }
 }
 
 /* The reasons that hold of a key and a round count, in the header's order. */
@@ -214,7 +150,6 @@ static void rolls(void) {
 }
 
 int main(void) {
-    page_size = (size_t)sysconf(_SC_PAGESIZE);
     make_room(&key);
     make_room(&input);
     make_room(&roll);
@@ -224,6 +159,5 @@ int main(void) {
         engine();
         rolls();
     }
-    printf("%lu calls agreed, %lu differed\n", agreed, differed);
-    return differed == 0 && agreed > 0 ? 0 : 1;
+    return told("calls");
 }

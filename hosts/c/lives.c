@@ -1,41 +1,9 @@
 /*
- * Replays the lives of grants that the independent program prints (reference/README.md, `grants`) through the C call of the check:
- * standard input has its lines. Each lent buffer ends where a page that may not be touched begins, so that a read past it stops the
- * program, and is compared after the call with what it was. Prints how many checks agreed; the status is 1 where one did not.
+ * Replays the lives of grants that the independent program prints (reference/README.md, `grants`) through the C call of the
+ * check: standard input has its lines. Each lent buffer ends where a page that may not be touched begins (guard.h). Prints how
+ * many checks agreed; the status is 1 where one did not.
  */
-#define _DEFAULT_SOURCE
-#include <stdio.h>
-#include <stdlib.h>
-#include <string.h>
-#include <sys/mman.h>
-#include <unistd.h>
-
-#include "gordzila.h"
-
-/* Bytes that end right before a page that may not be touched. */
-struct guarded {
-    uint8_t *page;
-    size_t room;
-};
-
-static struct guarded guard(void) {
-    size_t page = (size_t)sysconf(_SC_PAGESIZE);
-    uint8_t *at = mmap(NULL, 2 * page, PROT_READ | PROT_WRITE, MAP_PRIVATE | MAP_ANONYMOUS, -1, 0);
-    if (at == MAP_FAILED || mprotect(at + page, page, PROT_NONE) != 0) {
-        perror("lives");
-        exit(2);
-    }
-    struct guarded g = {at, page};
-    return g;
-}
-
-static const uint8_t *lend(struct guarded g, const uint8_t *bytes, size_t length) {
-    uint8_t *at = g.page + g.room - length;
-    if (length > 0) {
-        memcpy(at, bytes, length);
-    }
-    return at;
-}
+#include "guard.h"
 
 /* What a life is about, and what it has come to. */
 struct life {
@@ -47,36 +15,20 @@ struct life {
     int checks;
 };
 
-static struct guarded key_room, roll_room, grant_room;
-static unsigned long agreed, differed;
-
-static size_t from_hex(const char *text, uint8_t *bytes, size_t room) {
-    size_t n = 0;
-    while (n < room && sscanf(text + 2 * n, "%2hhx", &bytes[n]) == 1) {
-        n++;
-    }
-    return n;
-}
+static struct lent key, roll, grant;
 
 /* One check, on lent bytes of these lengths, has to give this answer. */
-static void expect(const struct life *l, const uint8_t *grant, size_t grant_length, size_t roll_length, unsigned block,
+static void expect(const struct life *l, const uint8_t *bytes, size_t grant_length, size_t roll_length, unsigned block,
                    unsigned right, unsigned answer) {
-    uint8_t roll[GORDZILA_ROLL_BYTES + 1];
-    memset(roll, 0, sizeof roll);
-    roll[2 * (l->contractor - 1)] = (uint8_t)(l->count / 256);
-    roll[2 * (l->contractor - 1) + 1] = (uint8_t)(l->count % 256);
-    const uint8_t *key_lent = lend(key_room, l->key, l->key_length);
-    const uint8_t *roll_lent = lend(roll_room, roll, roll_length);
-    const uint8_t *grant_lent = lend(grant_room, grant, grant_length);
-    unsigned got = gordzila_check(key_lent, l->key_length, l->rounds, roll_lent, roll_length, grant_lent, grant_length, block,
-                                  right);
-    if (got == answer && memcmp(key_lent, l->key, l->key_length) == 0 && memcmp(roll_lent, roll, roll_length) == 0
-        && memcmp(grant_lent, grant, grant_length) == 0) {
-        agreed++;
-    } else {
-        differed++;
-        printf("differs: got %u, expected %u\n", got, answer);
-    }
+    uint8_t counts[GORDZILA_ROLL_BYTES + 1];
+    memset(counts, 0, sizeof counts);
+    counts[2 * (l->contractor - 1)] = (uint8_t)(l->count / 256);
+    counts[2 * (l->contractor - 1) + 1] = (uint8_t)(l->count % 256);
+    lend(&key, l->key, l->key_length);
+    lend(&roll, counts, roll_length);
+    lend(&grant, bytes, grant_length);
+    judge("check", gordzila_check(key.at, key.length, l->rounds, roll.at, roll.length, grant.at, grant.length, block, right),
+          answer, NULL, 0);
 }
 
 /* The checks of a life, in their order: which grant, for which block and right. */
@@ -92,22 +44,22 @@ static void check(struct life *l, unsigned answer) {
 
 /* Lengths that are wrong by one: 3, whatever else holds of grant and roll. */
 static void short_and_long(const struct life *l) {
-    uint8_t grant[13];
-    memcpy(grant, l->grants[1], 12);
-    grant[12] = 0;
-    expect(l, grant, 11, 400, l->block, l->right, GORDZILA_INPUT_LENGTH);
-    expect(l, grant, 13, 400, l->block, l->right, GORDZILA_INPUT_LENGTH);
-    expect(l, grant, 12, 399, l->block, l->right, GORDZILA_INPUT_LENGTH);
-    expect(l, grant, 12, 401, l->block, l->right, GORDZILA_INPUT_LENGTH);
-    expect(l, grant, 12, 0, l->block, l->right, GORDZILA_INPUT_LENGTH);
-    expect(l, grant, 12, 400, l->block, 257, GORDZILA_RIGHT);
+    uint8_t bytes[13];
+    memcpy(bytes, l->grants[1], 12);
+    bytes[12] = 0;
+    expect(l, bytes, 11, 400, l->block, l->right, GORDZILA_INPUT_LENGTH);
+    expect(l, bytes, 13, 400, l->block, l->right, GORDZILA_INPUT_LENGTH);
+    expect(l, bytes, 12, 399, l->block, l->right, GORDZILA_INPUT_LENGTH);
+    expect(l, bytes, 12, 401, l->block, l->right, GORDZILA_INPUT_LENGTH);
+    expect(l, bytes, 12, 0, l->block, l->right, GORDZILA_INPUT_LENGTH);
+    expect(l, bytes, 12, 400, l->block, 257, GORDZILA_RIGHT);
 }
 
 static void damaged(const struct life *l, unsigned at, unsigned answer) {
-    uint8_t grant[12];
-    memcpy(grant, l->grants[1], 12);
-    grant[at % 12] ^= 1;
-    expect(l, grant, 12, 400, l->block, l->right, answer);
+    uint8_t bytes[12];
+    memcpy(bytes, l->grants[1], 12);
+    bytes[at % 12] ^= 1;
+    expect(l, bytes, 12, 400, l->block, l->right, answer);
     if (at == 11) {
         short_and_long(l);
     }
@@ -135,12 +87,12 @@ static void line(struct life *l, const char *text) {
 int main(void) {
     static struct life life;
     char text[256];
-    key_room = guard();
-    roll_room = guard();
-    grant_room = guard();
+    at_the_end = 1;
+    make_room(&key);
+    make_room(&roll);
+    make_room(&grant);
     while (fgets(text, sizeof text, stdin) != NULL) {
         line(&life, text);
     }
-    printf("%lu checks agreed, %lu differed\n", agreed, differed);
-    return differed == 0 && agreed > 0 ? 0 : 1;
+    return told("checks");
 }

@@ -17,6 +17,11 @@
 //!   decryption keys of Theorem 1.
 //! - `plain CONTRACTOR COUNT BLOCK RIGHT BYTES`: the plain bytes of a grant.
 //! - `walk L FROM TO STEPS WAY`: what a walk of a holder of a key of L bytes reports.
+//! - `lent KEY s BYTES`: the 26 bytes of a lent holder of a key at stage s, for s = 0,
+//!   1 and 6t - 1.
+//! - `walked L FROM TO ANSWER`: the number that a walk of a lent holder answers, for
+//!   the same walks, then for one to 6t from 0 for each key.
+//! - `broken BYTES ANSWER`: the number that a step forward on lent bytes answers.
 //! - `standing COUNT yes|no`: whether a contractor with this count is in standing.
 //! - `order CALL A B GIVEN`: the number with which a call is refused for which the
 //!   reasons A and B hold, and no reason that comes before A.
@@ -33,10 +38,15 @@
 //!
 //! The reasons 6 and 20 of withdraw do hold together: a contractor without a count
 //! is not in standing.
+//!
+//! The whole holders of `broken` stand last; they are at stage 6t - 1. The bytes of
+//! the lines before come from these by a single change each, but for those without
+//! any byte.
 
 use crate::cipher::{allowed_rounds, decryption_keys, encrypt, state_of};
 use crate::error::Error;
 use crate::grants::number_of;
+use crate::holder::{forward, holder_bytes, walk_to};
 use crate::matrix::Matrix;
 use crate::roll::{
     counts_from_bytes, counts_to_bytes, in_standing, Grant, Roll, CONTRACTORS, OVERWRITING, READING,
@@ -143,6 +153,9 @@ pub fn answers_text() -> Result<String, Error> {
     add_list_lines(&mut text)?;
     add_plain_lines(&mut text);
     add_walk_lines(&mut text);
+    add_lent_lines(&mut text)?;
+    add_walked_lines(&mut text)?;
+    add_broken_lines(&mut text)?;
     add_standing_lines(&mut text);
     add_order_lines(&mut text, "withdraw", &WITHDRAW_PAIRS, withdraw_with);
     add_order_lines(&mut text, "issue", &ISSUE_PAIRS, issue_with);
@@ -252,6 +265,81 @@ fn add_walk_lines(text: &mut String) {
             ],
         );
     }
+}
+
+/// The lines for lent holders at stages 0, 1 and 6t - 1.
+fn add_lent_lines(text: &mut String) -> Result<(), Error> {
+    for turn in KEY_LENGTHS {
+        let key = &KEY[..turn];
+        for s in [0, 1, turn - 1] {
+            let lent = hex(&holder_bytes(key, s)?);
+            add_line(text, &["lent", &hex(key), &s.to_string(), &lent]);
+        }
+    }
+    Ok(())
+}
+
+/// The lines for the same walks with lent holders, and for walks to 6t, which are
+/// refused.
+fn add_walked_lines(text: &mut String) -> Result<(), Error> {
+    let refused = KEY_LENGTHS.map(|turn| (turn, 0, turn));
+    for (turn, from, to) in WALKS.into_iter().chain(refused) {
+        let mut lent = holder_bytes(&KEY[..turn], from)?;
+        let answer = walk_to(to, &mut lent);
+        add_line(
+            text,
+            &[
+                "walked",
+                &turn.to_string(),
+                &from.to_string(),
+                &to.to_string(),
+                &answer.to_string(),
+            ],
+        );
+    }
+    Ok(())
+}
+
+/// The lines for steps forward on lent bytes. No bytes at all are written as `-`.
+fn add_broken_lines(text: &mut String) -> Result<(), Error> {
+    for mut lent in broken_and_whole()? {
+        let digits = if lent.is_empty() {
+            String::from("-")
+        } else {
+            hex(&lent)
+        };
+        let answer = forward(&mut lent).to_string();
+        add_line(text, &["broken", &digits, &answer]);
+    }
+    Ok(())
+}
+
+/// The lent bytes of these lines: without the last byte, with one more, none; with a
+/// key length that there is not, a stage number that there is not, a byte past the
+/// key that is not zero; and three whole holders.
+fn broken_and_whole() -> Result<Vec<Vec<u8>>, Error> {
+    let short = holder_bytes(&KEY[..12], 11)?;
+    let middle = holder_bytes(&KEY[..18], 17)?;
+    let long = holder_bytes(&KEY[..24], 23)?;
+    Ok(vec![
+        short[..25].to_vec(),
+        [&short[..], &[0]].concat(),
+        Vec::new(),
+        with_byte(&short, 0, 13),
+        with_byte(&short, 1, 12),
+        with_byte(&short, 2 + 12, 1),
+        with_byte(&middle, 2 + 18, 1),
+        short,
+        middle,
+        long,
+    ])
+}
+
+/// The bytes with the one at a position replaced.
+fn with_byte(bytes: &[u8], position: usize, value: u8) -> Vec<u8> {
+    let mut changed = bytes.to_vec();
+    changed[position] = value;
+    changed
 }
 
 /// The lines for counts with which a contractor is or is not in standing.

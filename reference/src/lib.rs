@@ -14,6 +14,7 @@ pub mod error;
 pub mod field;
 pub mod generator;
 pub mod grants;
+pub mod holder;
 pub mod layers;
 pub mod matrix;
 pub mod roll;

@@ -38,7 +38,7 @@ const DONE: u8 = 0;
 const NO_SUCH_PLACE: u8 = 5;
 
 /// The number of bytes to which a stage is filled up: those of the longest key.
-const FULL_LENGTH: usize = 24;
+pub(crate) const FULL_LENGTH: usize = 24;
 
 /// A call on a key holder.
 #[derive(Clone, Copy, Debug, PartialEq, Eq)]

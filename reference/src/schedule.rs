@@ -2,9 +2,14 @@
 //!
 //! A key of 48t bits is a matrix of N = 2t columns, so that N is 4, 6 or 8 and
 //! the period 6t of the schedule is 3N.
+//!
+//! The inverses of xi, mu, omega and psi_r are written out on their own: they do
+//! not lean on the paper's claims about the period of omega and the recovery of
+//! the key (section 3.7), so that these can be tested. The cipher does not need
+//! them.
 
 use crate::error::Error;
-use crate::layers::sigma;
+use crate::layers::{inverse_sigma, sigma};
 use crate::matrix::{Matrix, State, C, IDENTITY};
 use crate::{field, sbox};
 
@@ -87,6 +92,45 @@ pub fn key_stage<const N: usize>(key: &Matrix<N>, r: usize) -> Matrix<N> {
         stage = psi(i, &stage);
     }
     stage
+}
+
+/// The inverse of xi (section 3.7): every entry goes back to the column from which
+/// xi took it.
+pub fn inverse_xi<const N: usize>(b: &Matrix<N>) -> Matrix<N> {
+    let mut a = Matrix::zero();
+    for j in 0..N {
+        a.rows[0][j] = b.rows[0][j];
+        a.rows[1][(j + 1) % N] = b.rows[1][j];
+        a.rows[2][(j + N - 1) % N] = b.rows[2][j];
+    }
+    a
+}
+
+/// The inverse of mu (section 3.7): the product E^-1 * b, with the inverse matrix
+/// computed from its minors.
+pub fn inverse_mu<const N: usize>(b: &Matrix<N>) -> Matrix<N> {
+    e_matrix().inverse().expect("E is invertible").times(b)
+}
+
+/// The inverse of omega (section 3.7): mu and xi are undone in this order.
+pub fn inverse_omega<const N: usize>(b: &Matrix<N>) -> Matrix<N> {
+    inverse_xi(&inverse_mu(b))
+}
+
+/// The inverse of psi_r (section 3.7): omega and sigma[q^(r)] are undone in this
+/// order. It takes the key stage r to the key stage r - 1.
+pub fn inverse_psi<const N: usize>(r: usize, stage: &Matrix<N>) -> Matrix<N> {
+    inverse_sigma(&schedule_constant(r), &inverse_omega(stage))
+}
+
+/// The key whose key stage r is the given one (section 3.7): psi_r, ..., psi_1 are
+/// undone in this order.
+pub fn key_of_stage<const N: usize>(stage: &Matrix<N>, r: usize) -> Matrix<N> {
+    let mut key = *stage;
+    for i in (1..=r).rev() {
+        key = inverse_psi(i, &key);
+    }
+    key
 }
 
 /// The key selection phi (section 3.8), given the key stage: the subkey is the

@@ -5,6 +5,7 @@
 use curupira_reference::answers::{answers_text, check_with, issue_with, withdraw_with};
 use curupira_reference::cipher::{encrypt, encrypt_with};
 use curupira_reference::generator::Generator;
+use curupira_reference::holder::{back, forward, make, subkey, walk_to};
 use curupira_reference::layers::inverse_theta;
 use curupira_reference::matrix::{Matrix, State};
 use curupira_reference::roll::{counts_from_bytes, counts_to_bytes, Grant, Refusal, Roll};
@@ -82,6 +83,9 @@ fn the_lines_stand_in_the_documented_order() {
         ("turned", 1),
         ("plain", 2),
         ("walk", 11),
+        ("lent", 9),
+        ("walked", 14),
+        ("broken", 10),
         ("standing", 7),
         ("order", 13),
     ];
@@ -89,7 +93,7 @@ fn the_lines_stand_in_the_documented_order() {
         .iter()
         .flat_map(|(name, count)| vec![Some(*name); *count]);
     assert!(names.eq(documented));
-    assert_eq!(text.lines().count(), 53);
+    assert_eq!(text.lines().count(), 86);
 }
 
 /// The lines that README.md prints.
@@ -375,6 +379,136 @@ fn the_walks_arrive_by_the_shorter_way() {
         assert_eq!(place_after(turn, from, steps, &line[5]), to);
         assert!(2 * steps < turn || (2 * steps == turn && line[5] == "forward"));
         assert!(steps > 0 || line[5] == "forward");
+    }
+}
+
+/// The lent holders of a key: its length and the number of the stage, two digits
+/// each; the key, or the stage that a line `stage` has; zeros up to 52 digits.
+#[test]
+fn the_lent_holders_have_the_keys_and_the_stages() {
+    let stages = fields_of("stage");
+    let mut written = Vec::new();
+    for (k, key) in KEYS.iter().enumerate() {
+        let length = ["0c", "12", "18"][k];
+        let (last, last_digits) = [("11", "0b"), ("17", "11"), ("23", "17")][k];
+        let parts = [
+            ("0", "00", *key),
+            ("1", "01", &stages[3 * k][3]),
+            (last, last_digits, &stages[3 * k + 2][3]),
+        ];
+        let zeros = "00".repeat(12 - 6 * k);
+        for (s, digits, stage) in parts {
+            let lent = [length, digits, stage, &zeros].concat();
+            assert_eq!(lent.len(), 52);
+            written.push(format!("lent {} {} {}", key, s, lent));
+        }
+    }
+    assert_eq!(lines_of("lent"), written);
+}
+
+/// The lines that README.md prints.
+#[test]
+fn the_lent_holders_start_as_documented() {
+    let documented = [
+        "lent 0f1e2d3c4b5a69788796a5b4 0 0c000f1e2d3c4b5a69788796a5b4000000000000000000000000",
+        "lent 0f1e2d3c4b5a69788796a5b4 1 0c01c33dc23e2e7b71926d52ae37000000000000000000000000",
+        "lent 0f1e2d3c4b5a69788796a5b4 11 0c0b6bfc82f133a1b5136d5e0b55000000000000000000000000",
+    ];
+    assert_eq!(lines_of("lent")[..3], documented);
+    let readme = include_str!("../README.md");
+    assert!(readme.contains(&format!("    {}\n", documented.join("\n    "))));
+}
+
+/// The same bytes by the calls: made from the key, then walked to the stage.
+#[test]
+fn the_lent_holders_are_those_that_are_made_and_walked() {
+    for line in fields_of("lent") {
+        let mut lent = [0xFF; 26];
+        assert_eq!(make(&bytes(&line[1]), &mut lent), 0);
+        assert!(walk_to(number(&line[2]), &mut lent) >= 1_000);
+        assert_eq!(hex(&lent), line[3]);
+    }
+}
+
+#[test]
+fn the_answers_of_walks_are_as_counted_by_hand() {
+    let counted = [
+        "walked 12 0 0 1000",
+        "walked 12 0 6 1006",
+        "walked 12 0 7 2005",
+        "walked 12 11 0 1001",
+        "walked 12 0 11 2001",
+        "walked 18 0 9 1009",
+        "walked 18 0 10 2008",
+        "walked 24 0 12 1012",
+        "walked 24 0 13 2011",
+        "walked 24 23 1 1002",
+        "walked 24 1 23 2002",
+        "walked 12 0 12 5",
+        "walked 18 0 18 5",
+        "walked 24 0 24 5",
+    ];
+    assert_eq!(lines_of("walked"), counted);
+}
+
+#[test]
+fn the_answers_of_walks_say_what_the_walks_report() {
+    let answered = fields_of("walked");
+    let reported = fields_of("walk");
+    for (answer, report) in answered.iter().zip(&reported) {
+        assert_eq!(answer[1..4], report[1..4]);
+        let way = if report[5] == "forward" { 1_000 } else { 2_000 };
+        assert_eq!(number(&answer[4]), way + number(&report[4]));
+    }
+    for refused in &answered[reported.len()..] {
+        assert_eq!(refused[1], refused[3]);
+    }
+}
+
+/// The whole holders are those of the lines `lent` at the last stages. The others
+/// are without the last byte, with one more, and empty; then come key length 13,
+/// stage number 12, and byte 14 or 20 changed to 1.
+#[test]
+fn the_broken_holders_are_as_written_by_hand() {
+    let lent = fields_of("lent");
+    let [short, middle, long] = [2, 5, 8].map(|line| lent[line][3].as_str());
+    let written = [
+        format!("broken {} 24", &short[..50]),
+        format!("broken {}00 24", short),
+        String::from("broken - 24"),
+        format!("broken 0d0b{} 24", &short[4..]),
+        format!("broken 0c0c{} 24", &short[4..]),
+        format!("broken {}01{} 24", &short[..28], &short[30..]),
+        format!("broken {}01{} 24", &middle[..40], &middle[42..]),
+        format!("broken {} 0", short),
+        format!("broken {} 0", middle),
+        format!("broken {} 0", long),
+    ];
+    assert_eq!(lines_of("broken"), written);
+}
+
+/// All calls on a lent holder agree on which bytes are a whole one. From the last
+/// stage a step forward comes to the key.
+#[test]
+fn the_broken_holders_are_refused_by_every_call() {
+    for line in fields_of("broken") {
+        let lent = if line[1] == "-" {
+            Vec::new()
+        } else {
+            bytes(&line[1])
+        };
+        let whole = line[2] == "0";
+        let mut stepped = lent.clone();
+        assert_eq!(forward(&mut stepped).to_string(), line[2]);
+        assert_eq!(back(&mut stepped).to_string(), line[2]);
+        assert_eq!(stepped, lent);
+        assert_eq!(subkey(&lent, &mut [0; 12]).to_string(), line[2]);
+        let answer = walk_to(0, &mut stepped);
+        assert_eq!(answer, if whole { 1_001 } else { 24 });
+        if whole {
+            let key = &stepped[2..2 + usize::from(lent[0])];
+            assert!(KEYS.contains(&hex(key).as_str()));
+        }
     }
 }
 

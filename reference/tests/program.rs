@@ -244,7 +244,7 @@ fn grants_draws_its_inputs_as_documented() {
 
 /// The names of the lines of answers, each with how many there are of it and how many
 /// fields they have, the name being one of them.
-const ANSWERS: [(&str, usize, usize); 12] = [
+const ANSWERS: [(&str, usize, usize); 15] = [
     ("limits", 3, 4),
     ("roll", 1, 6),
     ("rollbytes", 1, 6),
@@ -255,6 +255,9 @@ const ANSWERS: [(&str, usize, usize); 12] = [
     ("turned", 1, 4),
     ("plain", 2, 6),
     ("walk", 11, 6),
+    ("lent", 9, 4),
+    ("walked", 14, 5),
+    ("broken", 10, 3),
     ("standing", 7, 3),
     ("order", 13, 5),
 ];
@@ -292,4 +295,23 @@ fn answers_has_the_keys_of_the_documentation() {
         assert_eq!(line[1..3], [&longest[..24], "10"]);
         assert_eq!(line[3].len(), 11 * 24);
     }
+}
+
+#[test]
+fn answers_lends_holders_of_the_keys_of_the_documentation() {
+    let longest = "0f1e2d3c4b5a69788796a5b4c3d2e1f00112233445566770";
+    let printed = lines("answers");
+    let mut rest = printed.iter().filter(|line| line[0] == "lent");
+    for (key_length, _, _) in SIZES {
+        for s in [0, 1, key_length - 1] {
+            let line = rest.next().expect("there are more holders");
+            let key = &longest[..2 * key_length];
+            assert_eq!(line[1..3], [key, &s.to_string()]);
+            let lent = bytes(&line[3]);
+            assert_eq!(lent.len(), 26);
+            assert_eq!(lent[..2], [key_length as u8, s as u8]);
+            assert!(lent[2 + key_length..].iter().all(|byte| *byte == 0));
+        }
+    }
+    assert!(rest.next().is_none());
 }

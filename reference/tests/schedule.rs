@@ -6,8 +6,9 @@ use curupira_reference::generator::Generator;
 use curupira_reference::matrix::{Matrix, IDENTITY};
 use curupira_reference::sbox::substitute;
 use curupira_reference::schedule::{
-    accumulated_constant, cipher_key, e_matrix, key_stage, mu, omega, omega_power, psi,
-    round_subkeys, schedule_constant, select, xi,
+    accumulated_constant, cipher_key, e_matrix, inverse_mu, inverse_omega, inverse_psi, inverse_xi,
+    key_of_stage, key_stage, mu, omega, omega_power, psi, round_subkeys, schedule_constant, select,
+    xi,
 };
 use curupira_reference::vectors::hex;
 
@@ -243,6 +244,92 @@ fn the_recovery_constants_of_the_readme_are_right() {
         "de830c3728881ad6223f464e18ed167cad899c8707980488",
         "02f45453b2685804ca5a8847b90cef18e3720d9518859e1a",
     );
+}
+
+/// The rows of the test of xi, the other way round.
+#[test]
+fn the_inverse_of_xi_rotates_rows_back() {
+    let b: Matrix<4> = Matrix {
+        rows: [[0, 1, 2, 3], [11, 12, 13, 10], [23, 20, 21, 22]],
+    };
+    let a: Matrix<4> = Matrix {
+        rows: [[0, 1, 2, 3], [10, 11, 12, 13], [20, 21, 22, 23]],
+    };
+    assert_eq!(inverse_xi(&b), a);
+}
+
+/// The inverses undo the maps of section 3.7, and the maps undo the inverses, on the
+/// basis and on keys.
+fn check_inverses<const N: usize>() {
+    for a in basis::<N>().iter().chain(&some_keys()) {
+        assert_eq!((inverse_xi(&xi(a)), xi(&inverse_xi(a))), (*a, *a));
+        assert_eq!((inverse_mu(&mu(a)), mu(&inverse_mu(a))), (*a, *a));
+        assert_eq!(inverse_omega(&omega(a)), *a);
+        assert_eq!(omega(&inverse_omega(a)), *a);
+        for r in 1..3 * N {
+            assert_eq!(inverse_psi(r, &psi(r, a)), *a);
+            assert_eq!(psi(r, &inverse_psi(r, a)), *a);
+        }
+    }
+}
+
+#[test]
+fn the_literal_inverses_undo_the_schedule() {
+    check_inverses::<4>();
+    check_inverses::<6>();
+    check_inverses::<8>();
+}
+
+/// With m = 6t, omega^m is the identity, so that the inverse of omega is
+/// omega^(m-1).
+fn check_inverse_by_the_period<const N: usize>() {
+    for key in some_keys::<N>() {
+        assert_eq!(inverse_omega(&key), omega_power(3 * N - 1, &key));
+    }
+}
+
+#[test]
+fn the_inverse_of_omega_is_the_one_of_its_period() {
+    check_inverse_by_the_period::<4>();
+    check_inverse_by_the_period::<6>();
+    check_inverse_by_the_period::<8>();
+}
+
+/// Every stage gives back its key. By the closed form the key is
+/// omega^(m-r)(K^(r) + Q^(r)) with m = 6t, which for r = m - 1 is the recovery of
+/// the key above.
+fn check_keys_of_stages<const N: usize>() {
+    for key in some_keys::<N>() {
+        for r in 0..3 * N {
+            let stage = key_stage(&key, r);
+            assert_eq!(key_of_stage(&stage, r), key);
+            let sum = stage.plus(&accumulated_constant(r));
+            assert_eq!(omega_power(3 * N - r, &sum), key);
+        }
+    }
+}
+
+#[test]
+fn every_stage_gives_back_its_key() {
+    check_keys_of_stages::<4>();
+    check_keys_of_stages::<6>();
+    check_keys_of_stages::<8>();
+}
+
+/// Whatever stands at a stage, there is a key that has it there.
+fn check_stages_of_keys<const N: usize>() {
+    for stage in some_keys::<N>() {
+        for r in 0..3 * N {
+            assert_eq!(key_stage(&key_of_stage(&stage, r), r), stage);
+        }
+    }
+}
+
+#[test]
+fn every_matrix_is_a_stage_of_some_key() {
+    check_stages_of_keys::<4>();
+    check_stages_of_keys::<6>();
+    check_stages_of_keys::<8>();
 }
 
 /// Section 3.8: S on the first row, the rest as it is, four columns.

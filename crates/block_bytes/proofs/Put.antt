@@ -2,7 +2,7 @@
 use mathlib.Core.Path.{_≡_, sym, ap, ap₂, _∙_}
 use mathlib.Core.List.{List, [], _∷_, _++_, append-assoc}
 use Prim.Native.Nat.{ℕ, suc, _+_, _≤_, _<_}
-use native.Mathlib.Nat.{add-zero}
+use native.Mathlib.Nat.{add-zero, zero-add}
 use native.Mathlib.Omega.{arith}
 use native.Mathlib.Numerals.{add-one}
 use lib.ListN.{length, getD, take, drop, set, length-append, take-append-drop}
@@ -41,3 +41,7 @@ pub placed-all : (at i : ℕ) (bytes out₀ : List ℕ) → i ≡ length bytes
 placed-all at i bytes out₀ e =
     ap (λ (n : ℕ). take at out₀ ++ (take n bytes ++ drop (at + n) out₀)) e
     ∙ ap (λ (x : List ℕ). take at out₀ ++ (x ++ drop (at + length bytes) out₀)) (take-length bytes)
+
+-- bytes put at the start
+pub put-first : (bytes out : List ℕ) → take 0 out ++ (bytes ++ drop (0 + length bytes) out) ≡ bytes ++ drop (length bytes) out
+put-first bytes out = ap (λ (m : ℕ). bytes ++ drop m out) (zero-add (length bytes))

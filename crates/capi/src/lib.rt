@@ -1,5 +1,5 @@
 // The C interface: the calls over numbers and byte slices. A slice is a pointer and a length. Each answers 0, or the number of the reason
-// for which it refuses; the check answers with contractor and right where it does not refuse.
+// for which it refuses; where it does not refuse, the check answers with contractor and right, and a walk with its steps and direction.
 
 ghost use mathlib.Core.Path.{_≡_};
 ghost use Rattle.engine.specs.Engine.{engineNumber, engineOutput};
@@ -10,6 +10,10 @@ ghost use Rattle.check_call.specs.CheckCall.{callCode};
 ghost use Rattle.roll_calls.specs.RollCalls.{enterCallNumber, enterCallRoll, withdrawCallNumber, withdrawCallRoll};
 ghost use Rattle.issue_call.specs.IssueCall.{issueCallNumber, issueCallOutput};
 ghost use Rattle.stage_calls.specs.StageCalls.{stageCallNumber, stageCallOutput, subkeyCallOutput};
+ghost use Rattle.holder.specs.declared.Way.the-variants.{Forward, Back};
+ghost use Rattle.holder_calls.specs.HolderCalls.{makeCallNumber, makeCallOutput, stepCallNumber, stepCallHolder};
+ghost use Rattle.holder_walk_call.specs.WalkCall.{walkCallCode, walkCallHolder};
+ghost use Rattle.holder_subkey_call.specs.SubkeyCall.{heldSubkeyNumber, heldSubkeyOutput};
 use key_lists::Direction;
 
 // Enciphers one block.
@@ -124,4 +128,49 @@ pub extern "C" fn gordzila_subkey(key: &[u8], n: u32, out: &mut [u8]) -> u32
     ensures { λ _. ⌜ now (out .exit) ≡ subkeyCallOutput (now (key .entry)) n (now (out .entry)) ⌝ }
 {
     stage_calls::subkey(key, n, out)
+}
+
+// Makes a holder of a key at stage 0: 26 bytes.
+#[no_mangle]
+pub extern "C" fn gordzila_holder_make(key: &[u8], out: &mut [u8]) -> u32
+    ensures { λ r. ⌜ r ≡ makeCallNumber (now (key .entry)) (now (out .entry)) ⌝ }
+    ensures { λ _. ⌜ now (out .exit) ≡ makeCallOutput (now (key .entry)) (now (out .entry)) ⌝ }
+{
+    holder_calls::make(key, out)
+}
+
+// Steps a holder forward.
+#[no_mangle]
+pub extern "C" fn gordzila_holder_forward(holder: &mut [u8]) -> u32
+    ensures { λ r. ⌜ r ≡ stepCallNumber (now (holder .entry)) ⌝ }
+    ensures { λ _. ⌜ now (holder .exit) ≡ stepCallHolder Forward (now (holder .entry)) ⌝ }
+{
+    holder_calls::forward(holder)
+}
+
+// Steps a holder back.
+#[no_mangle]
+pub extern "C" fn gordzila_holder_back(holder: &mut [u8]) -> u32
+    ensures { λ r. ⌜ r ≡ stepCallNumber (now (holder .entry)) ⌝ }
+    ensures { λ _. ⌜ now (holder .exit) ≡ stepCallHolder Back (now (holder .entry)) ⌝ }
+{
+    holder_calls::back(holder)
+}
+
+// Walks a holder to stage n: the refusal number, or the steps plus 1,000 for forward and 2,000 for back.
+#[no_mangle]
+pub extern "C" fn gordzila_holder_walk(holder: &mut [u8], n: u32) -> u32
+    ensures { λ r. ⌜ r ≡ walkCallCode (now (holder .entry)) n ⌝ }
+    ensures { λ _. ⌜ now (holder .exit) ≡ walkCallHolder (now (holder .entry)) n ⌝ }
+{
+    holder_walk_call::walk(holder, n)
+}
+
+// The subkey of the stage that a holder is at: 12 bytes.
+#[no_mangle]
+pub extern "C" fn gordzila_holder_subkey(holder: &[u8], out: &mut [u8]) -> u32
+    ensures { λ r. ⌜ r ≡ heldSubkeyNumber (now (holder .entry)) (now (out .entry)) ⌝ }
+    ensures { λ _. ⌜ now (out .exit) ≡ heldSubkeyOutput (now (holder .entry)) (now (out .entry)) ⌝ }
+{
+    holder_subkey_call::subkey(holder, out)
 }

@@ -1,17 +1,25 @@
 -- The known answers hold: those of each crate, and the last stages, closing sums and order lines, which are computed here.
-use mathlib.Core.Path.{refl}
-use Rattle.basics.specs.Cases.{Hold}
+use mathlib.Core.Path.{_≡_, refl, ap}
+use mathlib.Core.List.{List}
+use Prim.Native.Nat.{ℕ}
+use Rattle.basics.specs.Cases.{Hold, joined}
+use Rattle.basics.proofs.Cases.{_&_}
 use Rattle.field.specs.Field.{times, product, reduced}
 use Rattle.sbox.specs.Sbox.{sbox, tableP, tableQ}
-use Rattle.refusal.specs.Tries.{first}
+use Rattle.refusal.specs.Tries.{first, answered}
 use Rattle.sizes.proofs.KnownAnswers as S
 use Rattle.block_bytes.proofs.KnownAnswers as B
-use Rattle.stages.specs.Columns.{columns, plus, columnRule}
-use Rattle.stages.specs.Stages.{moved, linearStep, constant, stage, zeros, closingSum}
+use Rattle.stages.specs.Columns.{columns, plus, padded, columnRule}
+use Rattle.stages.specs.Stages.{moved, linearStep, constant, stage, zeros, closingSum, subkeyOf}
 use Rattle.stages.proofs.KnownAnswers as K
 use Rattle.key_lists.proofs.KnownAnswers as L
 use Rattle.holder.specs.Holder.{whole, blank}
 use Rattle.holder_walk.proofs.KnownAnswers as H
+use Rattle.holder_bytes.specs.HolderBytes.{holderOf, holderBytes}
+use Rattle.holder_bytes.proofs.KnownAnswers as HB
+use Rattle.holder_walk_call.specs.WalkCall.{walkCallCode}
+use Rattle.holder_calls.proofs.KnownAnswers as HC
+use Rattle.holder_walk_call.proofs.KnownAnswers as HW
 use Rattle.numbers.proofs.KnownAnswers as N
 use Rattle.roll.proofs.KnownAnswers as R
 use Rattle.roll_changes.proofs.KnownAnswers as RC
@@ -22,53 +30,28 @@ use Rattle.issuing.proofs.KnownAnswers as I
 use Rattle.checking.proofs.KnownAnswers as C
 use Rattle.cases.specs.KnownAnswers.{knownAnswers, orderAnswers, allKnownAnswers, KnownAnswersHold}
 
+-- a holder's bytes, from its stage
+abbrev lent : ℕ → ℕ → List ℕ → List ℕ
+lent n s k = holderBytes record { length = n; number = s; bytes = padded k }
+
+-- a stage is computed once, and its subkey and its holder's bytes from what it is
+of-stage : {R : Type 0} (n s : ℕ) {k e : List ℕ} → k ≡ e → R
+    → (k ≡ e) × ((joined (subkeyOf k) ≡ joined (subkeyOf e)) × ((lent n s k ≡ lent n s e) × R))
+of-stage n s p rest = (p, (ap (λ (x : List ℕ). joined (subkeyOf x)) p, (ap (lent n s) p, rest)))
+
 last-stages : Hold knownAnswers
-unfolding knownAnswers sbox tableP tableQ times product reduced columns plus columnRule moved linearStep constant stage zeros closingSum
-last-stages = (refl, (refl, (refl, (refl, (refl, (refl, (refl, (refl, (refl, tt)))))))))
+unfolding knownAnswers sbox tableP tableQ times product reduced columns plus padded columnRule moved linearStep constant stage zeros closingSum holderBytes
+last-stages = of-stage 12 11 refl (of-stage 18 17 refl (of-stage 24 23 refl (refl & refl & refl & tt)))
 
 orders : Hold orderAnswers
-unfolding orderAnswers first whole blank
-orders = (refl, (refl, (refl, (refl, (refl, (refl, (refl, (refl, (refl, tt)))))))))
+unfolding orderAnswers first answered whole blank holderOf walkCallCode
+orders = refl & refl & refl & refl & refl & refl & refl & refl & refl & refl & refl & refl & tt
 
 pub known-answers-hold : KnownAnswersHold
 unfolding KnownAnswersHold allKnownAnswers
-known-answers-hold = (
-  S.known-answers,
-  (
-    B.known-answers,
-    (
-      K.known-answers,
-      (
-        L.known-answers,
-        (
-          H.known-answers,
-          (
-            N.known-answers,
-            (
-              R.known-answers,
-              (
-                RC.known-answers,
-                (
-                  RB.known-answers,
-                  (
-                    G.known-answers,
-                    (
-                      J.known-answers,
-                      (
-                        I.known-answers,
-                        (
-                          C.known-answers,
-                          (last-stages, (orders, tt)),
-                        ),
-                      ),
-                    ),
-                  ),
-                ),
-              ),
-            ),
-          ),
-        ),
-      ),
-    ),
-  ),
-)
+known-answers-hold =
+    S.known-answers & B.known-answers & K.known-answers & L.known-answers
+    & H.known-answers & HB.known-answers & HC.known-answers & HW.known-answers
+    & N.known-answers & R.known-answers & RC.known-answers & RB.known-answers
+    & G.known-answers & J.known-answers & I.known-answers & C.known-answers
+    & last-stages & orders & tt

@@ -1,7 +1,8 @@
 -- The known answers: beside document 01's thirteen cases, a second list of computed facts, which pins definitions that no case of document 01
 -- pins. What is expected is what the independent program prints, line by line (`reference answers`); `tools/known-answers` compares the two.
--- Each crate has those of its definitions beside them; here stand the last stages and the closing sums, and the claim over them all. Where
--- that program has no such call, document 01's order lines are taken as they stand.
+-- Each crate has those of its definitions beside them; here stand the last stages, with their
+-- subkeys and holders, the closing sums, and the claim over them all. Where that program has no such call, document 01's order lines are taken as
+-- they stand.
 use mathlib.Core.List.{List, [], _∷_}
 use lib.ListN.{replicate}
 use Rattle.basics.specs.Cases.{Case, _is_, HoldAll, threes, joined}
@@ -18,6 +19,13 @@ use Rattle.holder.specs.Holder.{blank}
 use Rattle.holder_from_key.specs.FromKey.{straightNumber}
 use Rattle.holder_walk.specs.Walk.{walkNumber}
 use Rattle.holder_walk.specs.KnownAnswers as H
+use Rattle.holder_bytes.specs.KnownAnswers.{lentOf}
+use Rattle.holder_bytes.specs.KnownAnswers as HB
+use Rattle.holder_calls.specs.HolderCalls.{makeCallNumber}
+use Rattle.holder_walk_call.specs.WalkCall.{walkCallCode}
+use Rattle.holder_subkey_call.specs.SubkeyCall.{heldSubkeyNumber}
+use Rattle.holder_calls.specs.KnownAnswers as HC
+use Rattle.holder_walk_call.specs.KnownAnswers as HW
 use Rattle.numbers.specs.KnownAnswers as N
 use Rattle.roll.specs.KnownAnswers as R
 use Rattle.roll_changes.specs.KnownAnswers as RC
@@ -27,18 +35,27 @@ use Rattle.judging.specs.KnownAnswers as J
 use Rattle.issuing.specs.KnownAnswers as I
 use Rattle.checking.specs.KnownAnswers as C
 
--- the last stage of a key of each size and its subkey, and the closing sums
+-- the last stage of a key of each size, its subkey and the holder there, and the closing sums
 unfoldable pub knownAnswers : List Case
 knownAnswers =
     -- stage 0f1e2d3c4b5a69788796a5b4 11
     (stage 2 keyOf12 11 is threes (0x6BFC82 ∷ 0xF133A1 ∷ 0xB5136D ∷ 0x5E0B55 ∷ []))
     ∷ (joined (subkeyOf (stage 2 keyOf12 11)) is threes (0x2AFC82 ∷ 0xBD33A1 ∷ 0x90136D ∷ 0x6D0B55 ∷ []))
+    -- lent 0f1e2d3c4b5a69788796a5b4 11
+    ∷ (lentOf keyOf12 11 is (0x0C ∷ 0x0B ∷ 0x6B ∷ 0xFC ∷ 0x82 ∷ 0xF1 ∷ 0x33 ∷ 0xA1 ∷ 0xB5 ∷ 0x13 ∷ 0x6D ∷ 0x5E ∷ 0x0B ∷ 0x55 ∷ 0x00 ∷ 0x00 ∷
+    0x00 ∷ 0x00 ∷ 0x00 ∷ 0x00 ∷ 0x00 ∷ 0x00 ∷ 0x00 ∷ 0x00 ∷ 0x00 ∷ 0x00 ∷ []))
     -- stage 0f1e2d3c4b5a69788796a5b4c3d2e1f00112 17
     ∷ (stage 3 keyOf18 17 is threes (0x6A594F ∷ 0x60D79F ∷ 0xFDAC4E ∷ 0x94B33D ∷ 0xABC92E ∷ 0xCD0930 ∷ []))
     ∷ (joined (subkeyOf (stage 3 keyOf18 17)) is threes (0xF6594F ∷ 0xB9D79F ∷ 0xCAAC4E ∷ 0xBEB33D ∷ []))
+    -- lent 0f1e2d3c4b5a69788796a5b4c3d2e1f00112 17
+    ∷ (lentOf keyOf18 17 is (0x12 ∷ 0x11 ∷ 0x6A ∷ 0x59 ∷ 0x4F ∷ 0x60 ∷ 0xD7 ∷ 0x9F ∷ 0xFD ∷ 0xAC ∷ 0x4E ∷ 0x94 ∷ 0xB3 ∷ 0x3D ∷ 0xAB ∷ 0xC9 ∷
+    0x2E ∷ 0xCD ∷ 0x09 ∷ 0x30 ∷ 0x00 ∷ 0x00 ∷ 0x00 ∷ 0x00 ∷ 0x00 ∷ 0x00 ∷ []))
     -- stage 0f1e2d3c4b5a69788796a5b4c3d2e1f00112233445566770 23
     ∷ (stage 4 keyOf24 23 is threes (0xA717A0 ∷ 0xFD404D ∷ 0x316B54 ∷ 0x6B7C3A ∷ 0x4E8A2B ∷ 0xA3EA85 ∷ 0xF6A984 ∷ 0x3D79D3 ∷ []))
     ∷ (joined (subkeyOf (stage 4 keyOf24 23)) is threes (0x8217A0 ∷ 0xCA404D ∷ 0xC46B54 ∷ 0x2A7C3A ∷ []))
+    -- lent 0f1e2d3c4b5a69788796a5b4c3d2e1f00112233445566770 23
+    ∷ (lentOf keyOf24 23 is (0x18 ∷ 0x17 ∷ 0xA7 ∷ 0x17 ∷ 0xA0 ∷ 0xFD ∷ 0x40 ∷ 0x4D ∷ 0x31 ∷ 0x6B ∷ 0x54 ∷ 0x6B ∷ 0x7C ∷ 0x3A ∷ 0x4E ∷ 0x8A ∷
+    0x2B ∷ 0xA3 ∷ 0xEA ∷ 0x85 ∷ 0xF6 ∷ 0xA9 ∷ 0x84 ∷ 0x3D ∷ 0x79 ∷ 0xD3 ∷ []))
     -- closing 12
     ∷ (closingSum 2 is threes (0x129B2E ∷ 0x3B5B64 ∷ 0x9EAE1B ∷ 0x0A310E ∷ []))
     -- closing 18
@@ -64,6 +81,10 @@ orderAnswers =
     ∷ ((straightNumber (replicate 11 0) 24 ∷ []) is (1 ∷ []))
     -- holder 24, 5
     ∷ ((walkNumber blank 24 ∷ []) is (24 ∷ []))
+    -- lent holder: made 1, 4; walked 24, 5; its subkey 24, 4
+    ∷ ((makeCallNumber (replicate 11 0) (replicate 25 0) ∷ []) is (1 ∷ []))
+    ∷ ((walkCallCode (replicate 26 0) 24 ∷ []) is (24 ∷ []))
+    ∷ ((heldSubkeyNumber (replicate 26 0) (replicate 11 0) ∷ []) is (24 ∷ []))
     ∷ []
 
 -- all of them
@@ -74,6 +95,9 @@ allKnownAnswers =
     ∷ K.knownAnswers
     ∷ L.knownAnswers
     ∷ H.knownAnswers
+    ∷ HB.knownAnswers
+    ∷ HC.knownAnswers
+    ∷ HW.knownAnswers
     ∷ N.knownAnswers
     ∷ R.knownAnswers
     ∷ RC.knownAnswers

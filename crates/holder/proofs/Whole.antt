@@ -2,18 +2,19 @@
 use mathlib.Core.Path.{_≡_, sym, ap, _∙_}
 use mathlib.Core.Bool.{Bool, true, _&&_}
 use mathlib.Core.List.{List, _++_}
-use Prim.Native.Nat.{ℕ, _+_, _*_, _<_}
+use Prim.Native.Nat.{ℕ, zero, suc, _+_, _*_, _<_}
 use native.Mathlib.Numerals.{add-one}
 use native.Mathlib.Omega.{arith}
 use lib.Dec.{ltb}
 use lib.ListN.{length, drop}
 use borrow.Author.Tests.{ltb-true, lt-ltb}
 use Rattle.basics.proofs.Tests.{and-first, and-second}
-use Rattle.sizes.specs.Sizes.{Sized, keyLength, turn}
+use Rattle.sizes.specs.Sizes.{Sized, keyLength, tOf, turn}
 use Rattle.stages.specs.Columns.{padded, columnRule}
 use Rattle.stages.specs.Stages.{linearStep}
 use Rattle.stages.proofs.Columns.{length-columns}
 use Rattle.sizes.proofs.Keys.{a-key}
+use Rattle.stages.proofs.Keys.{key-length, length-stage}
 use Rattle.stages.proofs.Padded.{length-plus}
 use Rattle.basics.specs.Repeated.{repeated}
 use Rattle.cycle.specs.Cycle.{following, preceding, stageAfter, stageBefore}
@@ -21,7 +22,7 @@ use Rattle.cycle.proofs.Addends.{following-below, preceding-below}
 use Rattle.holder.specs.declared.Holder.{Holder}
 use Rattle.holder.specs.declared.Way.{Way}
 use Rattle.holder.specs.declared.Way.the-variants.{Forward, Back}
-use Rattle.holder.specs.Holder.{tHeld, allZero, whole, onward, backward, stepped}
+use Rattle.holder.specs.Holder.{tHeld, allZero, whole, holderAt, onward, backward, stepped}
 use Rattle.holder.proofs.Zeros.{padded-zeros, zeros-kept}
 
 pub record Whole (h : Holder) : Type 0 where
@@ -110,6 +111,10 @@ unfolding stepped
 step-whole Forward h e = is-whole (onward h) (onward-whole h (a-whole h e))
 step-whole Back h e = is-whole (backward h) (backward-whole h (a-whole h e))
 
+pub steps-whole : (way : Way) (m : ℕ) (h : Holder) → whole h ≡ true → whole (repeated m (stepped way) h) ≡ true
+steps-whole way zero h w = w
+steps-whole way (suc m) h w = step-whole way _ (steps-whole way m h w)
+
 -- one step more, of a list of them
 pub step-more : (way : Way) (h at r : Holder) (i : ℕ) → (at ≡ repeated i (stepped way) h) × (whole at ≡ true) → r ≡ stepped way at
     → (r ≡ repeated (i + 1) (stepped way) h) × (whole r ≡ true)
@@ -117,3 +122,10 @@ step-more way h at r i (ea, w) e = (
   e ∙ ap (stepped way) ea ∙ ap (λ (m : ℕ). repeated m (stepped way) h) (sym (add-one i)),
   ap whole e ∙ step-whole way at w,
 )
+
+-- ---- a holder of a key at a place
+pub whole-at : (key : List ℕ) → keyLength (length key) ≡ true → (n : ℕ) → n < turn (tOf (length key)) → whole (holderAt key n) ≡ true
+whole-at key right n h =
+    let e = key-length key right in
+    let l = length-stage (tOf (length key)) key e n in
+    is-whole (holderAt key n) record { key = right; below = h; zeros = padded-zeros _ (length key) (l ∙ sym e) }

@@ -5,7 +5,7 @@ ghost use mathlib.Core.Path.{_≡_};
 ghost use mathlib.Core.Bool.{true};
 ghost use lib.ListN.{drop};
 ghost use Rattle.basics.specs.Repeated.{repeated};
-ghost use Rattle.holder.specs.Holder.{allZero, whole, stepped};
+ghost use Rattle.holder.specs.Holder.{allZero, whole, blank, stepped};
 use basics::both;
 use refusal::Outcome;
 
@@ -54,6 +54,17 @@ pub fn is_whole(h: Holder) -> bool
         sizes::is_key_length(length),
         both(below, zeros_from(&bytes, length)),
     )
+}
+
+// What stands in a holder's place where none is made.
+pub fn blank_holder() -> Holder
+    ensures { λ r. ⌜ r ≡ blank ⌝ }
+{
+    Holder {
+        length: 0,
+        number: 0,
+        bytes: [0u8; 24],
+    }
 }
 
 // One step, the way that is told, on a copy of the holder's bytes.

@@ -9,24 +9,13 @@ ghost use Rattle.refusal.specs.Tries.{first};
 ghost use Rattle.sizes.specs.Sizes.{keyLength, tOf, turn};
 ghost use Rattle.stages.specs.Columns.{padded};
 ghost use Rattle.stages.specs.Stages.{stage};
-ghost use Rattle.holder.specs.Holder.{holderAt, blank};
+ghost use Rattle.holder.specs.Holder.{holderAt};
 ghost use Rattle.holder_from_key.specs.FromKey.{makeNumber, madeHolder, straightTries, straightNumber, straightHolder};
 use holder::Holder;
 use holder::HolderAnswer;
 use refusal::Outcome;
 use refusal::Reason;
 use refusal::unless;
-
-// What stands in a holder's place where none is made.
-fn blank_holder() -> Holder
-    ensures { λ r. ⌜ r ≡ blank ⌝ }
-{
-    Holder {
-        length: 0,
-        number: 0,
-        bytes: [0u8; 24],
-    }
-}
 
 // A key's stage n: 24 bytes, with zeros past the key's length.
 pub fn stage_bytes(key: &[u8], n: usize) -> [u8; 24]
@@ -63,7 +52,7 @@ pub fn make(key: &[u8]) -> HolderAnswer
     if !sizes::is_key_length(key.len()) {
         return HolderAnswer {
             outcome: Outcome::Refused(Reason::KeyLength),
-            holder: blank_holder(),
+            holder: holder::blank_holder(),
         };
     }
     HolderAnswer {
@@ -93,7 +82,7 @@ pub fn straight(key: &[u8], n: usize) -> HolderAnswer
     if refusal::is_refused(outcome) {
         return HolderAnswer {
             outcome,
-            holder: blank_holder(),
+            holder: holder::blank_holder(),
         };
     }
     HolderAnswer {

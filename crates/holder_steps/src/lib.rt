@@ -18,8 +18,8 @@ pub struct SubkeyAnswer {
     pub subkey: [u8; 12],
 }
 
-// One step, either way.
-fn step_either(way: Way, h: Holder) -> HolderAnswer
+// One step, the way that is told.
+pub fn step_either(way: Way, h: Holder) -> HolderAnswer
     ensures { λ r. ⌜ outcomeNumber (r .outcome) ≡ holderNumber h ⌝ }
     ensures { λ r. ⌜ r .holder ≡ stepHolder way h ⌝ }
 {

@@ -1,19 +1,23 @@
 -- What a walk answers: nothing new where it refuses, and else the shorter way's steps, taken one after the other.
-use mathlib.Core.Path.{_≡_, sym, ap, ap₂, _∙_}
+use mathlib.Core.Path.{_≡_, refl, sym, ap, ap₂, _∙_}
+use mathlib.Core.Logic.{inl, inr}
 use mathlib.Core.Bool.{Bool, true, cond}
 use mathlib.Core.List.{[]}
 use Prim.Native.Nat.{ℕ, _+_, _-_, _*_, _/_, _%_, _≤_, _<_}
 use native.Mathlib.Nat.{mod-lt}
 use native.Mathlib.Omega.{arith}
 use borrow.Author.Tests.{lt-ltb, le-leb, lt-leb}
+use Rattle.basics.proofs.Tests.{below-or-not}
 use Rattle.refusal.proofs.Tries.{first-passes, none-given}
-use Rattle.refusal.proofs.Answers.{answer-refused, answer-done}
+use Rattle.refusal.proofs.Answers.{answer-refused, answer-done, answer-either}
+use Rattle.refusal.proofs.Ladder.{all-pass}
 use Rattle.sizes.specs.Sizes.{turn}
 use Rattle.basics.specs.Repeated.{repeated}
 use Rattle.holder.specs.declared.Holder.{Holder}
 use Rattle.holder.specs.declared.Way.{Way}
 use Rattle.holder.specs.declared.Way.the-variants.{Forward, Back}
 use Rattle.holder.specs.Holder.{tHeld, whole, stepped}
+use Rattle.holder.proofs.Whole.{a-whole, size-held}
 use Rattle.holder_walk.specs.Walk.{stepsForward, ringDistance, wayTo, walked, walkTries, walkNumber, walkHolder, walkSteps, walkWay}
 
 -- ---- the shorter way
@@ -28,6 +32,13 @@ unfolding ringDistance wayTo
 ring-back t s d h =
     let e = lt-leb (stepsForward t s d) (3 * t) h in
     (ap (λ (b : Bool). cond b (stepsForward t s d) (turn t - stepsForward t s d)) e, ap (λ (b : Bool). cond b Forward Back) e)
+
+-- it has at most 3t steps
+pub ring-most : (t s d : ℕ) → ringDistance t s d ≤ 3 * t
+ring-most t s d = elim (below-or-not (3 * t) (stepsForward t s d)) [
+  | inl l ↦ omega (arith, ring-back t s d l .0)
+  | inr l ↦ omega (arith, ring-forward t s d l .0)
+]
 
 -- the steps forward are fewer than a turn
 pub forward-below : (d s n : ℕ) → s < n → (d + (n - s)) % n < n
@@ -86,3 +97,13 @@ module _ (h : Holder) (d : ℕ) where
             let z : f ≡ stepsForward (tHeld h) (h .number) d = e ∙ counted in
             let a = ring-back (tHeld h) (h .number) d (omega arith) in
             walk-done (n - f) Back er (a .0 ∙ ap₂ _-_ (sym turns) (sym z)) (a .1) (omega arith)
+
+-- every walk reports at most 12 steps
+pub walk-few : (h : Holder) (d : ℕ) → walkSteps h d ≤ 12
+unfolding walkSteps
+walk-few h d = answer-either (λ (n : ℕ). n ≤ 12) (walkNumber h d) (ringDistance (tHeld h) (h .number) d) 0 by (omega arith)
+  where
+    by : walkNumber h d ≡ 0 → ringDistance (tHeld h) (h .number) d ≤ 12
+    by e =
+        let w = a-whole h (all-pass (walkTries h d) refl e .0) in
+        omega (arith, ring-most (tHeld h) (h .number) d, size-held h w .most)

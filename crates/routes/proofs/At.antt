@@ -23,12 +23,11 @@ use Rattle.cycle.proofs.Agree.{inverse-agrees}
 use Rattle.cycle.proofs.Around.{after-key, before-key}
 use Rattle.holder.specs.declared.Way.{Way}
 use Rattle.holder.specs.declared.Way.the-variants.{Forward, Back}
-use Rattle.holder.specs.Holder.{whole, holderAt, blank, onward, backward, stepped}
+use Rattle.holder.specs.Holder.{holderAt, blank, onward, backward, stepped}
 use Rattle.holder_walk.specs.Walk.{ringDistance, wayTo, walked, walkTries, walkNumber, walkHolder, walkSteps, walkWay}
 use Rattle.holder_from_key.specs.FromKey.{makeTries, makeNumber, madeHolder, straightTries, straightNumber, straightHolder}
 use Rattle.holder_steps.specs.Steps.{holderTries, holderNumber, stepHolder, noSubkey, subkeyHeld}
-use Rattle.holder.proofs.Whole.{is-whole}
-use Rattle.holder.proofs.Zeros.{padded-zeros}
+use Rattle.holder.proofs.Whole.{whole-at}
 use Rattle.routes.proofs.Ring.{numberTo, numbers-below, arrives}
 
 -- ---- steps over a stage in 24 bytes
@@ -50,12 +49,6 @@ module _ (key : List ℕ) (bytes : AreBytes key) (right : keyLength (length key)
 
   stage-length : (n : ℕ) → length (stage (tOf (length key)) key n) ≡ 3 * (2 * tOf (length key))
   stage-length n = length-stage (tOf (length key)) key (key-length key right) n
-
-  -- a holder at a place is whole
-  pub whole-at : (n : ℕ) → n < turn (tOf (length key)) → whole (holderAt key n) ≡ true
-  whole-at n h =
-      let e = key-length key right in
-      is-whole (holderAt key n) record { key = right; below = h; zeros = padded-zeros _ (length key) (stage-length n ∙ sym e) }
 
   -- ---- steps
   onward-at : (n : ℕ) → n < turn (tOf (length key)) → onward (holderAt key n) ≡ holderAt key (following (tOf (length key)) n)
@@ -88,7 +81,7 @@ module _ (key : List ℕ) (bytes : AreBytes key) (right : keyLength (length key)
   -- ---- the calls at a place
   module _ (n : ℕ) (h : n < turn (tOf (length key))) where
     pub not-refused : holderNumber (holderAt key n) ≡ 0
-    not-refused = first-passes _ [] (whole-at n h) ∙ none-given [] tt
+    not-refused = first-passes _ [] (whole-at key right n h) ∙ none-given [] tt
 
     pub step-call : (way : Way) → stepHolder way (holderAt key n) ≡ holderAt key (numberTo (tOf (length key)) way n)
     unfolding stepHolder
@@ -104,10 +97,10 @@ module _ (key : List ℕ) (bytes : AreBytes key) (right : keyLength (length key)
 
     module _ (d : ℕ) where
       pub walk-taken : d < turn (tOf (length key)) → walkNumber (holderAt key n) d ≡ 0
-      walk-taken b = first-passes _ _ (whole-at n h) ∙ first-passes _ [] (lt-ltb d (turn (tOf (length key))) b) ∙ none-given [] tt
+      walk-taken b = first-passes _ _ (whole-at key right n h) ∙ first-passes _ [] (lt-ltb d (turn (tOf (length key))) b) ∙ none-given [] tt
 
       pub walk-refused : turn (tOf (length key)) ≤ d → walkNumber (holderAt key n) d ≡ 5
-      walk-refused b = first-passes _ _ (whole-at n h) ∙ first-holds _ [] (le-ltb d (turn (tOf (length key))) b)
+      walk-refused b = first-passes _ _ (whole-at key right n h) ∙ first-holds _ [] (le-ltb d (turn (tOf (length key))) b)
 
       pub walk-call : d < turn (tOf (length key)) → walkHolder (holderAt key n) d ≡ holderAt key d
       unfolding walkHolder walked t

@@ -24,10 +24,10 @@ use Rattle.holder.specs.declared.Holder.{Holder}
 use Rattle.holder.specs.declared.Way.{Way}
 use Rattle.holder.specs.Holder.{tHeld, allZero, whole, holderAt, stepped}
 use Rattle.holder_steps.specs.Steps.{holderTries, holderNumber, stepHolder}
-use Rattle.holder.proofs.Whole.{a-whole, turn-held, step-whole}
+use Rattle.holder.proofs.Whole.{a-whole, turn-held, steps-whole, whole-at}
 use Rattle.routes.specs.Claims.{ComesHome}
 use Rattle.routes.proofs.Ring.{full-turn}
-use Rattle.routes.proofs.At.{whole-at, steps-at}
+use Rattle.routes.proofs.At.{steps-at}
 
 -- ---- a whole holder's bytes are its stage's, and zeros
 all-zero : (bs : List ℕ) → allZero bs ≡ true → bs ≡ replicate (length bs) 0
@@ -90,10 +90,6 @@ module _ (h : Holder) (bytes : AreBytes (h .bytes)) (all : length (h .bytes) ≡
       }
 
 -- ---- steps of the calls are steps
-steps-whole : (way : Way) (m : ℕ) (h : Holder) → whole h ≡ true → whole (repeated m (stepped way) h) ≡ true
-steps-whole way zero h w = w
-steps-whole way (suc m) h w = step-whole way _ (steps-whole way m h w)
-
 not-refused : (h : Holder) → whole h ≡ true → holderNumber h ≡ 0
 not-refused h w = first-passes _ [] w ∙ none-given [] tt
 
@@ -111,7 +107,7 @@ module _ (key : List ℕ) (bytes : AreBytes key) (right : keyLength (length key)
   home-at =
       let t = tOf (length key) in
       let h = holderAt key n in
-      let w = whole-at key bytes right n b in
+      let w = whole-at key right n b in
       record {
         taken = λ m. ap holderNumber (call-steps way m h w) ∙ not-refused (repeated m (stepped way) h) (steps-whole way m h w);
         home = call-steps way (turn t) h w ∙ steps-at key bytes right way (turn t) n b ∙ ap (holderAt key) (full-turn t way n b);

@@ -12,7 +12,7 @@ use Rattle.cycle.proofs.Addends.{following-is, following-below, preceding-below
 use Rattle.holder.specs.declared.Way.{Way}
 use Rattle.holder.specs.declared.Way.the-variants.{Forward, Back}
 use Rattle.holder_walk.specs.Walk.{stepsForward, ringDistance, wayTo}
-use Rattle.holder_walk.proofs.Walks.{ring-forward, ring-back}
+use Rattle.holder_walk.proofs.Walks.{ring-forward, ring-back, ring-most}
 use Rattle.routes.specs.Claims.{Shortest}
 
 -- the number after a step
@@ -169,10 +169,7 @@ led-back t s d hs hd e = led t s d Back hs hd e
 
 pub shortest : (t s d : ℕ) → s < turn t → d < turn t → Shortest t s d
 shortest t s d hs hd = record {
-  most = elim (below-or-not (3 * t) (stepsForward t s d)) [
-    | inl l ↦ omega (arith, ring-back t s d l .0)
-    | inr l ↦ omega (arith, ring-forward t s d l .0)
-  ];
+  most = ring-most t s d;
   forward = λ m e. omega (arith, forward-bound t s d, at-least t s d m hs e);
   back = λ m e. omega (arith, back-bound t s d hs hd, at-least t d s m hd (ap (repeated m (following t)) (sym e) ∙ redone t m s hs));
   arrives-forward = led-forward t s d hs hd;

@@ -1,21 +1,16 @@
 -- A key's stage in 24 bytes, as the C calls hand it out.
-use mathlib.Core.Path.{_≡_, ap}
+use mathlib.Core.Path.{_≡_}
 use mathlib.Core.Bool.{true}
-use mathlib.Core.List.{List, _++_}
-use Prim.Native.Nat.{ℕ, _+_, _*_}
+use mathlib.Core.List.{List}
+use Prim.Native.Nat.{ℕ, _*_}
 use native.Mathlib.Omega.{arith}
-use native.Mathlib.Nat.{zero-add}
-use lib.ListN.{length, take, drop}
+use lib.ListN.{length}
 use Rattle.sizes.specs.Sizes.{keyLength, tOf}
 use Rattle.sizes.proofs.Keys.{a-key}
 use Rattle.stages.specs.Columns.{padded}
 use Rattle.stages.specs.Stages.{stage, subkeyOf}
 use Rattle.stages.proofs.Keys.{key-length, length-stage}
 use Rattle.stages.proofs.Padded.{padded-agrees, subkey-agrees}
-
--- bytes put at the start
-pub put-first : (bytes out : List ℕ) → take 0 out ++ (bytes ++ drop (0 + length bytes) out) ≡ bytes ++ drop (length bytes) out
-put-first bytes out = ap (λ (m : ℕ). bytes ++ drop m out) (zero-add (length bytes))
 
 -- the subkey of a stage in 24 bytes is the stage's
 pub subkey-padded : (key : List ℕ) (n : ℕ) → keyLength (length key) ≡ true

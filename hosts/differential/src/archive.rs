@@ -30,6 +30,11 @@ pub fn archive(call: Call, lent: &Lent) -> u32 {
         Call::Withdraw => raw::withdraw_number(write(lent.roll), lent.contractor),
         Call::Stage => raw::stage_number(key, lent.stage, write(lent.out)),
         Call::Subkey => raw::subkey_number(key, lent.stage, write(lent.out)),
+        Call::HolderMake => raw::holder_make_number(key, write(lent.out)),
+        Call::HolderForward => raw::holder_forward_number(write(lent.holder)),
+        Call::HolderBack => raw::holder_back_number(write(lent.holder)),
+        Call::HolderWalk => raw::holder_walk_number(write(lent.holder), lent.stage),
+        Call::HolderSubkey => raw::holder_subkey_number(read(lent.holder), write(lent.out)),
     }
 }
 

@@ -17,6 +17,11 @@ pub enum Call {
     Withdraw,
     Stage,
     Subkey,
+    HolderMake,
+    HolderForward,
+    HolderBack,
+    HolderWalk,
+    HolderSubkey,
 }
 
 /// What a call can be given.
@@ -26,6 +31,7 @@ pub enum Argument {
     Rounds,
     Stage,
     Roll,
+    Holder,
     List,
     Block,
     Grant,
@@ -39,7 +45,7 @@ use Argument as A;
 
 impl Call {
     /// All calls.
-    pub const ALL: [Call; 11] = [
+    pub const ALL: [Call; 16] = [
         Call::Encipher,
         Call::Decipher,
         Call::PrepareEnciphering,
@@ -51,6 +57,11 @@ impl Call {
         Call::Withdraw,
         Call::Stage,
         Call::Subkey,
+        Call::HolderMake,
+        Call::HolderForward,
+        Call::HolderBack,
+        Call::HolderWalk,
+        Call::HolderSubkey,
     ];
 
     /// The place among all calls.
@@ -73,6 +84,11 @@ impl Call {
             Call::Withdraw => "withdraw",
             Call::Stage => "stage",
             Call::Subkey => "subkey",
+            Call::HolderMake => "holder_make",
+            Call::HolderForward => "holder_forward",
+            Call::HolderBack => "holder_back",
+            Call::HolderWalk => "holder_walk",
+            Call::HolderSubkey => "holder_subkey",
         }
     }
 
@@ -94,6 +110,10 @@ impl Call {
             Call::Check => &[A::Key, A::Rounds, A::Roll, A::Grant, A::SizeBlock, A::Right],
             Call::Enter | Call::Withdraw => &[A::Roll, A::Contractor],
             Call::Stage | Call::Subkey => &[A::Key, A::Stage, A::Out],
+            Call::HolderMake => &[A::Key, A::Out],
+            Call::HolderForward | Call::HolderBack => &[A::Holder],
+            Call::HolderWalk => &[A::Holder, A::Stage],
+            Call::HolderSubkey => &[A::Holder, A::Out],
         }
     }
 

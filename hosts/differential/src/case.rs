@@ -13,6 +13,8 @@ pub struct Case {
     /// The number of a key stage.
     pub stage: u32,
     pub roll: Vec<u8>,
+    /// A key holder.
+    pub holder: Vec<u8>,
     /// A subkey list.
     pub list: Vec<u8>,
     /// A block, or a grant.
@@ -36,6 +38,7 @@ impl Case {
             rounds: 0,
             stage: 0,
             roll: Vec::new(),
+            holder: Vec::new(),
             list: Vec::new(),
             block: Vec::new(),
             contractor: 0,
@@ -53,6 +56,7 @@ impl Case {
             Argument::Rounds => format!("rounds={}", self.rounds),
             Argument::Stage => format!("stage={}", self.stage),
             Argument::Roll => format!("roll={}", hex(&self.roll)),
+            Argument::Holder => format!("holder={}", hex(&self.holder)),
             Argument::List => format!("list={}", hex(&self.list)),
             Argument::Block => format!("block={}", hex(&self.block)),
             Argument::Grant => format!("grant={}", hex(&self.block)),

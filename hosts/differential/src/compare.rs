@@ -24,9 +24,10 @@ pub fn differences(
     }
     let mut after = before;
     after[..effect.written.len()].copy_from_slice(&effect.written);
-    let parts: [(&str, &Guarded, &[u8]); 5] = [
+    let parts: [(&str, &Guarded, &[u8]); 6] = [
         ("key", &loan.key, &case.key),
         ("roll", &loan.roll, &effect.roll),
+        ("holder", &loan.holder, &effect.holder),
         ("list", &loan.list, &case.list),
         ("block or grant", &loan.block, &case.block),
         ("out", &loan.out, &after),

@@ -4,13 +4,14 @@ use crate::call::Call;
 use crate::case::Case;
 use crate::expect::{needed, BLOCK_BYTES};
 use crate::family::{self, Family, Held};
+use crate::holders;
 use crate::oracle::{Oracle, Way};
 use crate::random::Random;
 use crate::rolls::set_count;
 use crate::spoil::spoil;
 
 /// How often each call is drawn.
-const WEIGHTS: [(Call, usize); 11] = [
+const WEIGHTS: [(Call, usize); 16] = [
     (Call::Encipher, 10),
     (Call::Decipher, 10),
     (Call::PrepareEnciphering, 7),
@@ -22,6 +23,11 @@ const WEIGHTS: [(Call, usize); 11] = [
     (Call::Withdraw, 8),
     (Call::Stage, 7),
     (Call::Subkey, 7),
+    (Call::HolderMake, 5),
+    (Call::HolderForward, 9),
+    (Call::HolderBack, 9),
+    (Call::HolderWalk, 14),
+    (Call::HolderSubkey, 10),
 ];
 
 /// Draws a case.
@@ -64,6 +70,14 @@ fn right_case(call: Call, family: &Family, oracle: &mut Oracle, random: &mut Ran
         Call::Stage | Call::Subkey => {
             case.key = family.key.clone();
             case.stage = random.below(case.key.len()) as u32;
+        }
+        Call::HolderMake => case.key = family.key.clone(),
+        Call::HolderForward | Call::HolderBack | Call::HolderSubkey => {
+            case.holder = some_holder(family, oracle, random);
+        }
+        Call::HolderWalk => {
+            case.holder = some_holder(family, oracle, random);
+            case.stage = some_end(&case.holder, random);
         }
     }
     if needed(&case) > 0 {
@@ -120,6 +134,27 @@ fn with_block_of(case: &mut Case, family: &Family, random: &mut Random) {
         0 => random.pick(&family.blocks),
         _ => family::bytes(BLOCK_BYTES, random),
     };
+}
+
+/// A holder of the key at any of its stages, or one of any bytes.
+fn some_holder(family: &Family, oracle: &mut Oracle, random: &mut Random) -> Vec<u8> {
+    if random.once_in(4) {
+        return family::some_holder(random);
+    }
+    let number = family::some_stage(family.key.len(), random);
+    oracle.holder(&family.key, number)
+}
+
+/// A stage to which a holder can walk: often its own, half a turn away, or one step more.
+fn some_end(holder: &[u8], random: &mut Random) -> u32 {
+    let stages = holders::stage(holder).len();
+    let forward = match random.below(8) {
+        0 => 0,
+        1 => stages / 2,
+        2 => stages / 2 + 1,
+        _ => random.below(stages),
+    };
+    (holders::number(holder) + forward as u32) % stages as u32
 }
 
 /// A roll and a contractor, often with a count near an end.

@@ -6,6 +6,7 @@ use curupira_reference::roll::Grant;
 
 use crate::call::Call;
 use crate::case::Case;
+use crate::holders::{self, HOLDER_BYTES};
 use crate::oracle::{Oracle, Way};
 use crate::rolls::{self, count, in_standing, is_contractor, ROLL_BYTES};
 
@@ -32,6 +33,8 @@ pub struct Effect {
     pub written: Vec<u8>,
     /// The roll after the call.
     pub roll: Vec<u8>,
+    /// The holder after the call.
+    pub holder: Vec<u8>,
 }
 
 /// What a call has to do, and all reasons for which it has to refuse, in their order.
@@ -45,18 +48,19 @@ pub struct Expected {
 pub fn expected(case: &Case, oracle: &mut Oracle) -> Expected {
     let reasons = reasons(case, oracle);
     let effect = match reasons.first() {
-        Some(&reason) => refusal(case, reason),
+        Some(&reason) => only_answered(case, reason),
         None => success(case, oracle),
     };
     Expected { effect, reasons }
 }
 
-/// A refusal writes nothing.
-fn refusal(case: &Case, answer: u32) -> Effect {
+/// What a call does that answers and writes nothing. Every refusal is like that.
+pub fn only_answered(case: &Case, answer: u32) -> Effect {
     Effect {
         answer,
         written: Vec::new(),
         roll: case.roll.clone(),
+        holder: case.holder.clone(),
     }
 }
 
@@ -75,7 +79,9 @@ pub fn needed(case: &Case) -> u64 {
     match case.call {
         Call::PrepareEnciphering | Call::PrepareDeciphering => 12 * (u64::from(case.rounds) + 1),
         Call::Stage => STAGE_BYTES as u64,
+        Call::HolderMake => HOLDER_BYTES as u64,
         Call::Check | Call::Enter | Call::Withdraw => 0,
+        Call::HolderForward | Call::HolderBack | Call::HolderWalk => 0,
         _ => BLOCK_BYTES as u64,
     }
 }
@@ -107,12 +113,13 @@ fn holds(case: &Case, reason: u32) -> bool {
         3 => wrong_input(case),
         4 => (case.out as u64) < needed(case),
         5 if case.call == Call::Run => wrong_list(case.list.len()),
-        5 => allowed_rounds(case.key.len()).is_some() && case.stage as usize >= case.key.len(),
+        5 => stages(case).map_or(false, |stages| case.stage as usize >= stages),
         6 => !is_contractor(case.contractor),
         7 => case.right != 1 && case.right != 2,
         20 => own_count(case).map_or(false, |count| !in_standing(count)),
         21 => own_count(case).map_or(false, in_standing),
         22 => own_count(case).map_or(false, |count| count >= SPENT),
+        24 => !holders::is_whole(&case.holder),
         other => panic!("reason {other} is not seen without deciphering"),
     }
 }
@@ -130,6 +137,15 @@ fn wrong_input(case: &Case) -> bool {
 
 fn wrong_list(length: usize) -> bool {
     !LIST_LENGTHS.contains(&length) || length % 12 != 0
+}
+
+/// How many stages the key has that is given, or that the holder names, if its length is right. A
+/// broken holder can name one too.
+fn stages(case: &Case) -> Option<usize> {
+    match case.call {
+        Call::HolderWalk => holders::key_length(&case.holder),
+        _ => allowed_rounds(case.key.len()).map(|_| case.key.len()),
+    }
 }
 
 /// The count of the contractor that the case names, if there is one.
@@ -163,7 +179,7 @@ fn opened(case: &Case, oracle: &mut Oracle) -> Option<Grant> {
 
 /// What the call of a case does where no reason holds.
 fn success(case: &Case, oracle: &mut Oracle) -> Effect {
-    let mut effect = refusal(case, 0);
+    let mut effect = only_answered(case, 0);
     let (key, rounds) = (&case.key, case.rounds);
     match case.call {
         Call::Encipher => effect.written = oracle.block(Way::Encipher, key, rounds, &case.block),
@@ -179,8 +195,39 @@ fn success(case: &Case, oracle: &mut Oracle) -> Effect {
         }
         Call::Stage => effect.written = Oracle::stage(key, case.stage),
         Call::Subkey => effect.written = oracle.subkey(key, case.stage),
+        Call::HolderMake => effect.written = oracle.holder(key, 0),
+        Call::HolderForward | Call::HolderBack | Call::HolderWalk => {
+            let (answer, number) = moved(case);
+            effect.answer = answer;
+            effect.holder = oracle.holder(&oracle.key_held(&case.holder), number);
+        }
+        Call::HolderSubkey => {
+            let key = oracle.key_held(&case.holder);
+            effect.written = oracle.subkey(&key, holders::number(&case.holder));
+        }
     }
     effect
+}
+
+/// The answer to a step or a walk, and the number of the stage to which it leads.
+fn moved(case: &Case) -> (u32, u32) {
+    let stages = holders::stage(&case.holder).len() as u32;
+    let number = holders::number(&case.holder);
+    match case.call {
+        Call::HolderForward => (0, (number + 1) % stages),
+        Call::HolderBack => (0, (number + stages - 1) % stages),
+        _ => (walked(stages, number, case.stage), case.stage),
+    }
+}
+
+/// The answer to a walk from one stage of so many to another: the shorter way, and forward where
+/// both are as long.
+fn walked(stages: u32, from: u32, to: u32) -> u32 {
+    let forward = (to + stages - from) % stages;
+    match forward <= stages / 2 {
+        true => 1000 + forward,
+        false => 2000 + stages - forward,
+    }
 }
 
 /// The plain bytes of the grant that an issue gives.

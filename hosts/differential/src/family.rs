@@ -4,6 +4,7 @@
 use curupira_reference::roll::Grant;
 
 use crate::expect::{allowed_rounds, BLOCK_BYTES};
+use crate::holders;
 use crate::oracle::{Oracle, Way};
 use crate::random::Random;
 use crate::rolls::{self, count, model, set_count, ROLL_BYTES};
@@ -147,6 +148,23 @@ pub fn some_contractor(random: &mut Random) -> u32 {
 pub fn some_size_block(random: &mut Random) -> u32 {
     let word = random.word();
     random.pick(&[0, 1, u32::MAX, word, word, word])
+}
+
+/// A number of a stage, often the first or the last.
+pub fn some_stage(stages: usize, random: &mut Random) -> u32 {
+    let last = stages as u32 - 1;
+    match random.below(6) {
+        0 => 0,
+        1 => last,
+        _ => random.below(stages) as u32,
+    }
+}
+
+/// A whole holder of any bytes.
+pub fn some_holder(random: &mut Random) -> Vec<u8> {
+    let length = random.pick(&[12, 18, 24]);
+    let number = some_stage(length, random);
+    holders::bytes(length, number, &bytes(length, random))
 }
 
 /// A count, often near an end.

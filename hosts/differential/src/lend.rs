@@ -25,6 +25,7 @@ pub struct Lent {
     pub rounds: u32,
     pub stage: u32,
     pub roll: Bytes,
+    pub holder: Bytes,
     pub list: Bytes,
     pub block: Bytes,
     pub contractor: u32,
@@ -97,6 +98,7 @@ fn guard(place: usize) -> u8 {
 pub struct Loan {
     pub key: Guarded,
     pub roll: Guarded,
+    pub holder: Guarded,
     pub list: Guarded,
     pub block: Guarded,
     pub out: Guarded,
@@ -108,6 +110,7 @@ impl Loan {
         Loan {
             key: Guarded::new(&case.key, random),
             roll: Guarded::new(&case.roll, random),
+            holder: Guarded::new(&case.holder, random),
             list: Guarded::new(&case.list, random),
             block: Guarded::new(&case.block, random),
             out: Guarded::new(out, random),
@@ -126,6 +129,7 @@ impl Loan {
             rounds: case.rounds,
             stage: case.stage,
             roll: self.roll.lend(),
+            holder: self.holder.lend(),
             list: self.list.lend(),
             block,
             contractor: case.contractor,

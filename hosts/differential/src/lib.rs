@@ -13,6 +13,7 @@ pub mod compare;
 pub mod draw;
 pub mod expect;
 pub mod family;
+pub mod holders;
 pub mod lend;
 pub mod opinion;
 pub mod oracle;

@@ -3,11 +3,12 @@
 
 use curupira_reference::cipher::{decrypt, encrypt};
 use curupira_reference::error::Error;
+use curupira_reference::holder;
 use curupira_reference::roll::Refusal;
 
 use crate::call::Call;
 use crate::case::Case;
-use crate::expect::{Effect, BLOCK_BYTES};
+use crate::expect::{needed, only_answered, Effect, BLOCK_BYTES};
 use crate::rolls::{self, model, ROLL_BYTES};
 
 /// What the independent program does, or nothing where it has no such call or does not take what
@@ -18,13 +19,19 @@ pub fn second(case: &Case) -> Option<Effect> {
         Call::Issue => issue(case),
         Call::Check => check(case),
         Call::Enter | Call::Withdraw => roll(case),
+        Call::HolderMake => Some(output(case, |out| holder::make(&case.key, out))),
+        Call::HolderForward | Call::HolderBack | Call::HolderWalk => Some(moved(case)),
+        Call::HolderSubkey => Some(output(case, |out| holder::subkey(&case.holder, out))),
         _ => None,
     }
 }
 
 /// Whether a second opinion costs next to nothing.
 pub fn is_cheap(call: Call) -> bool {
-    matches!(call, Call::Enter | Call::Withdraw)
+    matches!(
+        call,
+        Call::Enter | Call::Withdraw | Call::HolderMake | Call::HolderSubkey
+    )
 }
 
 fn cipher(case: &Case) -> Option<Effect> {
@@ -66,11 +73,7 @@ fn check(case: &Case) -> Option<Effect> {
         Ok(accepted) => 1000 * u32::from(accepted.right) + u32::from(accepted.contractor),
         Err(refusal) => number(refusal),
     };
-    Some(Effect {
-        answer,
-        written: Vec::new(),
-        roll: case.roll.clone(),
-    })
+    Some(only_answered(case, answer))
 }
 
 fn roll(case: &Case) -> Option<Effect> {
@@ -83,11 +86,34 @@ fn roll(case: &Case) -> Option<Effect> {
         Call::Enter => roll.enter(contractor),
         _ => roll.withdraw(contractor),
     };
+    let answer = result.map_or_else(number, |()| 0);
     Some(Effect {
-        answer: result.map_or_else(number, |()| 0),
-        written: Vec::new(),
         roll: rolls::bytes(&roll),
+        ..only_answered(case, answer)
     })
+}
+
+/// What a call does that steps or walks a holder.
+fn moved(case: &Case) -> Effect {
+    let mut holder = case.holder.clone();
+    let answer = match case.call {
+        Call::HolderForward => holder::forward(&mut holder),
+        Call::HolderBack => holder::back(&mut holder),
+        _ => holder::walk_to(case.stage as usize, &mut holder),
+    };
+    Effect {
+        holder,
+        ..only_answered(case, answer)
+    }
+}
+
+/// What a call does that writes to an output.
+fn output(case: &Case, call: impl Fn(&mut [u8]) -> u32) -> Effect {
+    let mut out = vec![0; case.out];
+    match call(&mut out) {
+        0 => effect(case, Ok(out[..needed(case) as usize].to_vec())),
+        number => effect(case, Err(number)),
+    }
 }
 
 /// What a call does that writes bytes, or refuses with a number.
@@ -97,9 +123,8 @@ fn effect(case: &Case, result: Result<Vec<u8>, u32>) -> Effect {
         Err(number) => (number, Vec::new()),
     };
     Effect {
-        answer,
         written,
-        roll: case.roll.clone(),
+        ..only_answered(case, answer)
     }
 }
 

@@ -6,7 +6,9 @@ use std::collections::HashMap;
 use curupira_reference::cipher::{decrypt_with, decryption_keys, encrypt_with};
 use curupira_reference::error::Error;
 use curupira_reference::matrix::{Matrix, State};
-use curupira_reference::schedule::{cipher_key, key_stage, round_subkeys};
+use curupira_reference::schedule::{cipher_key, key_of_stage, key_stage, round_subkeys};
+
+use crate::holders;
 
 /// The bytes of a stage as the library gives it: those of the key, then zeros.
 const STAGE_BYTES: usize = 24;
@@ -22,12 +24,14 @@ pub enum Way {
 type Question = (Way, Vec<u8>, u32, Vec<u8>);
 
 /// The independent program, with what it was asked before. Every key that it is given has 12, 18 or
-/// 24 bytes, every round count and stage is allowed for the key, and every block has 12 bytes;
-/// anything else is a mistake in this package, and it panics.
+/// 24 bytes, every round count and stage is allowed for the key, every block has 12 bytes, and every
+/// holder is whole; anything else is a mistake in this package, and it panics.
 #[derive(Default)]
 pub struct Oracle {
     subkeys: HashMap<Vec<u8>, Vec<State>>,
     blocks: HashMap<Question, Vec<u8>>,
+    /// The keys of the holders that were made here.
+    keys: HashMap<Vec<u8>, Vec<u8>>,
 }
 
 impl Oracle {
@@ -84,6 +88,27 @@ impl Oracle {
         self.subkeys(key)[stage as usize].to_bytes()
     }
 
+    /// The 26 bytes of a holder of a key at a stage.
+    pub fn holder(&mut self, key: &[u8], stage: u32) -> Vec<u8> {
+        let holder = holders::bytes(key.len(), stage, &Oracle::stage(key, stage));
+        self.keys.insert(holder.clone(), key.to_vec());
+        holder
+    }
+
+    /// The key of a holder: the one that it was made of here, or else the one that has the holder's
+    /// bytes at its stage. There is one, whatever the bytes are.
+    pub fn key_held(&self, holder: &[u8]) -> Vec<u8> {
+        let known = self.keys.get(holder).cloned();
+        known.unwrap_or_else(|| {
+            let (stage, number) = (holders::stage(holder), holders::number(holder));
+            match stage.len() {
+                12 => key_bytes::<4>(stage, number),
+                18 => key_bytes::<6>(stage, number),
+                _ => key_bytes::<8>(stage, number),
+            }
+        })
+    }
+
     /// The subkeys 0 to `rounds` of a key.
     fn first_subkeys(&mut self, key: &[u8], rounds: u32) -> &[State] {
         &self.subkeys(key)[..=rounds as usize]
@@ -112,4 +137,10 @@ fn bytes_of(list: &[State]) -> Vec<u8> {
 
 fn stage_bytes<const N: usize>(key: &[u8], stage: u32) -> Vec<u8> {
     key_stage(&sound(cipher_key::<N>(key)), stage as usize).to_bytes()
+}
+
+/// The key of a stage: the steps that lead from it to the stage are undone.
+fn key_bytes<const N: usize>(stage: &[u8], number: u32) -> Vec<u8> {
+    let stage: Matrix<N> = Matrix::from_bytes(stage).expect("a stage has its key's length");
+    key_of_stage(&stage, number as usize).to_bytes()
 }

@@ -1,9 +1,10 @@
 //! Spoils one argument of a case: it is mostly wrong after that, and now and then only different.
 
-use crate::call::Argument;
+use crate::call::{Argument, Call};
 use crate::case::Case;
 use crate::expect::needed;
 use crate::family::{self, one_bit_changed};
+use crate::holders::HOLDER_BYTES;
 use crate::random::Random;
 
 /// Lengths of no key. The last one differs from 12 by 256.
@@ -11,6 +12,12 @@ const KEY_LENGTHS: [usize; 10] = [0, 1, 11, 13, 17, 19, 23, 25, 32, 268];
 
 /// Lengths of no roll. The last one differs from 400 by 65,536.
 const ROLL_LENGTHS: [usize; 9] = [0, 1, 144, 398, 399, 401, 402, 600, 65_936];
+
+/// Lengths of no holder. The last two differ from 26 by 256 and by 65,536.
+const HOLDER_LENGTHS: [usize; 7] = [0, 1, 24, 25, 27, 282, 65_562];
+
+/// What a holder names as the length of its key: lengths of no key, and the three of keys.
+const NAMED_LENGTHS: [u8; 11] = [0, 11, 13, 17, 19, 23, 25, 255, 12, 18, 24];
 
 /// Lengths of no block and no grant. The last two differ from 12 by 256 and by 65,536.
 const BLOCK_LENGTHS: [usize; 8] = [0, 1, 11, 13, 16, 24, 268, 65_548];
@@ -30,6 +37,7 @@ pub fn spoil(case: &mut Case, argument: Argument, random: &mut Random) {
             let length = random.pick(&ROLL_LENGTHS);
             resize(&mut case.roll, length, random);
         }
+        Argument::Holder => spoil_holder(&mut case.holder, random),
         Argument::List => spoil_list(case, random),
         Argument::Block | Argument::Grant => {
             let length = random.pick(&BLOCK_LENGTHS);
@@ -81,7 +89,10 @@ fn other_rounds(rounds: u32, random: &mut Random) -> u32 {
 
 /// A stage at the end or past it, or a huge number.
 fn other_stage(case: &Case, random: &mut Random) -> u32 {
-    let turn = case.key.len() as u32;
+    let turn = match case.call {
+        Call::HolderWalk => case.holder.first().map_or(0, |&length| u32::from(length)),
+        _ => case.key.len() as u32,
+    };
     match random.below(8) {
         0 => turn,
         1 => turn + 1,
@@ -92,6 +103,60 @@ fn other_stage(case: &Case, random: &mut Random) -> u32 {
         _ => case
             .stage
             .wrapping_add(random.pick(&[1 << 8, 1 << 16, 1 << 24, 1 << 31])),
+    }
+}
+
+/// A holder of a wrong length, one with another key length, number or byte past the key, or one with
+/// one bit changed, of the first two bytes or of all.
+fn spoil_holder(holder: &mut Vec<u8>, random: &mut Random) {
+    let fault = random.below(10);
+    if holder.len() < HOLDER_BYTES || fault < 2 {
+        let length = random.pick(&HOLDER_LENGTHS);
+        return resize(holder, length, random);
+    }
+    match fault {
+        2 | 3 => holder[0] = other_length(holder[0], random),
+        4 | 5 => holder[1] = other_number(holder, random),
+        6 | 7 if holder[0] < 24 => {
+            let place = past_key(holder[0], random);
+            holder[place] = 1 + random.below(255) as u8;
+        }
+        _ => {
+            let bits = random.pick(&[16, 8 * HOLDER_BYTES]);
+            *holder = one_bit_changed(holder, 0..bits, random);
+        }
+    }
+}
+
+/// What a holder names as the length of its key: one byte more or less, or another length.
+fn other_length(length: u8, random: &mut Random) -> u8 {
+    match random.below(4) {
+        0 => length.wrapping_add(1),
+        1 => length.wrapping_sub(1),
+        _ => random.pick(&NAMED_LENGTHS),
+    }
+}
+
+/// A place past a key of fewer than 24 bytes in a holder, often the first or the last.
+fn past_key(length: u8, random: &mut Random) -> usize {
+    let first = 2 + usize::from(length);
+    match random.below(6) {
+        0 => first,
+        1 => HOLDER_BYTES - 1,
+        _ => first + random.below(HOLDER_BYTES - first),
+    }
+}
+
+/// The number of a stage at the end or past it, for a holder.
+fn other_number(holder: &[u8], random: &mut Random) -> u8 {
+    let turn = holder[0];
+    match random.below(6) {
+        0 => turn,
+        1 => turn.wrapping_add(1),
+        2 => random.pick(&[11, 12, 17, 18, 23, 24, 25]),
+        3 => u8::MAX,
+        4 => random.byte(),
+        _ => holder[1] ^ 0x80,
     }
 }
 

@@ -7,10 +7,10 @@ use crate::call::Call;
 use crate::expect::Expected;
 
 /// The answers that have a column. 0 stands for every answer that is no refusal.
-const COLUMNS: [u32; 15] = [0, 1, 2, 3, 4, 5, 6, 7, 8, 9, 10, 20, 21, 22, 23];
+const COLUMNS: [u32; 16] = [0, 1, 2, 3, 4, 5, 6, 7, 8, 9, 10, 20, 21, 22, 23, 24];
 
-/// The answers from which on a grant opens.
-const OPENS: u32 = 1000;
+/// The answers from which on a grant opens, or a holder walked.
+const DONE: u32 = 1000;
 
 /// Numbers of cases.
 #[derive(Clone, Debug, Default, PartialEq, Eq)]
@@ -27,7 +27,7 @@ impl Tally {
     /// Counts a case.
     pub fn count(&mut self, call: Call, expected: &Expected) {
         let answer = match expected.effect.answer {
-            OPENS.. => 0,
+            DONE.. => 0,
             answer => answer,
         };
         *self.answers.entry((call.place(), answer)).or_default() += 1;

@@ -160,6 +160,8 @@ fn text(effect: &Effect) -> String {
         answer,
         written,
         roll,
+        holder,
     } = effect;
-    format!("answer {answer}, out {}, roll {}", hex(written), hex(roll))
+    let [written, roll, holder] = [written, roll, holder].map(|bytes| hex(bytes));
+    format!("answer {answer}, out {written}, roll {roll}, holder {holder}")
 }

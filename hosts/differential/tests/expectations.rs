@@ -43,6 +43,24 @@ fn block_case(call: Call, key_length: u8, rounds: u32) -> Case {
     case
 }
 
+/// A case on a holder with a key length, a stage number and the bytes that follow, with zeros after
+/// them.
+fn holder_case(call: Call, key_length: u8, number: u8, rest: &[u8]) -> Case {
+    let mut case = Case::new(call);
+    case.holder = [&[key_length, number], rest].concat();
+    case.holder.resize(26, 0);
+    case.out = 12;
+    case
+}
+
+/// The calls on a holder.
+const HOLDING: [Call; 4] = [
+    Call::HolderForward,
+    Call::HolderBack,
+    Call::HolderWalk,
+    Call::HolderSubkey,
+];
+
 /// A case on a roll on which contractor 7 has a count and everyone else has 0.
 fn roll_case(call: Call, contractor: u32, count: u16) -> Case {
     let mut case = block_case(call, 12, 10);
@@ -75,11 +93,14 @@ fn right(call: Call) -> Case {
     let mut case = match call {
         Call::Issue | Call::Check | Call::Withdraw => roll_case(call, 7, 1),
         Call::Enter => roll_case(call, 7, 0),
+        _ if HOLDING.contains(&call) => holder_case(call, 12, 0, &[1; 12]),
         _ => block_case(call, 12, 10),
     };
     match call {
         Call::PrepareEnciphering | Call::PrepareDeciphering => case.out = 132,
         Call::Stage => case.out = 24,
+        Call::HolderMake => case.out = 26,
+        Call::HolderWalk => case.stage = 7,
         Call::Run => case.list = vec![1; 132],
         Call::Check => case.block = effect(&right(Call::Issue)).written,
         _ => {}
@@ -106,6 +127,7 @@ fn spoil(case: &mut Case, reason: u32) {
         21 => set_count(&mut case.roll, 7, 1),
         22 => set_count(&mut case.roll, 7, 65_534),
         23 => set_count(&mut case.roll, 7, 3),
+        24 => case.holder[1] = 12,
         other => panic!("{other} is no reason"),
     }
 }
@@ -113,8 +135,12 @@ fn spoil(case: &mut Case, reason: u32) {
 #[test]
 fn a_right_case_is_done() {
     for call in Call::ALL {
-        let answer = answer(&right(call));
-        assert_eq!(answer, if call == Call::Check { 2007 } else { 0 });
+        let done = match call {
+            Call::Check => 2007,
+            Call::HolderWalk => 2005,
+            _ => 0,
+        };
+        assert_eq!(answer(&right(call)), done, "{}", call.name());
     }
 }
 
@@ -216,6 +242,188 @@ fn stages_and_subkeys() {
     case.stage = 11;
     case.out = 11;
     assert_eq!(answer(&case), 4);
+}
+
+/// Stage 1 of a key of zeros: S-box entries 0 to 3 are ba, 54, 2f and 74, in row 0; 1c times these,
+/// in the field of 14d, is 13, 53, e3 and 04, and is added to all three rows.
+#[test]
+fn a_holder_of_a_key_of_zeros_by_hand() {
+    let stage = hex("a91313 075353 cce3e3 700404");
+    let case = holder_case(Call::HolderForward, 12, 0, &[]);
+    let next = holder_case(Call::HolderBack, 12, 1, &stage);
+    assert_eq!(effect(&case).holder, next.holder);
+    assert_eq!(effect(&next).holder, case.holder);
+    let subkey = holder_case(Call::HolderSubkey, 12, 1, &stage);
+    let written = hex("8b1313 4d5353 30e3e3 0c0404");
+    assert_eq!(effect(&subkey).written, written);
+    assert_eq!(effect(&subkey).holder, next.holder);
+}
+
+#[test]
+fn a_holder_is_made_at_stage_0() {
+    for key_length in [12, 18, 24] {
+        let mut case = block_case(Call::HolderMake, key_length, 0);
+        let made = holder_case(Call::HolderMake, key_length, 0, &case.key);
+        case.out = 26;
+        assert_eq!(effect(&case).written, made.holder);
+        case.out = 25;
+        assert_eq!(answer(&case), 4);
+        case.key.push(0);
+        assert_eq!(answer(&case), 1);
+    }
+}
+
+/// Walks from one stage of a key length to another, each with its answer.
+#[test]
+fn walks_by_hand() {
+    let table = [
+        (12, 0, 0, 1000),
+        (12, 0, 1, 1001),
+        (12, 0, 6, 1006),
+        (12, 0, 7, 2005),
+        (12, 0, 11, 2001),
+        (12, 11, 0, 1001),
+        (12, 11, 5, 1006),
+        (12, 11, 6, 2005),
+        (12, 5, 5, 1000),
+        (18, 0, 9, 1009),
+        (18, 0, 10, 2008),
+        (18, 17, 8, 1009),
+        (18, 17, 9, 2008),
+        (18, 9, 0, 1009),
+        (18, 10, 0, 1008),
+        (24, 0, 12, 1012),
+        (24, 0, 13, 2011),
+        (24, 23, 23, 1000),
+        (24, 23, 11, 1012),
+        (24, 23, 12, 2011),
+        (24, 2, 1, 2001),
+    ];
+    for (key_length, from, to, right) in table {
+        let mut case = holder_case(Call::HolderWalk, key_length, from, &[7; 12]);
+        case.stage = to;
+        assert_eq!(answer(&case), right, "{case}");
+        assert_eq!(effect(&case).holder[..2], [key_length, to as u8], "{case}");
+        for past in [u32::from(key_length), 99, to + 256, to + 65_536, u32::MAX] {
+            case.stage = past;
+            assert_eq!(answer(&case), 5, "{case}");
+            assert_eq!(effect(&case).holder, case.holder, "{case}");
+        }
+    }
+}
+
+#[test]
+fn a_full_turn_comes_home_and_a_walk_is_its_steps() {
+    for key_length in [12, 18, 24] {
+        let bytes: Vec<u8> = (0..key_length).collect();
+        let mut case = holder_case(Call::HolderForward, key_length, 3, &bytes);
+        let first = case.holder.clone();
+        for step in 1..=u32::from(key_length) {
+            let before = case.holder.clone();
+            case.holder = effect(&case).holder;
+            let mut back = case.clone();
+            back.call = Call::HolderBack;
+            assert_eq!(effect(&back).holder, before, "{back}");
+            let mut walk = holder_case(Call::HolderWalk, key_length, 3, &bytes);
+            walk.stage = (3 + step) % u32::from(key_length);
+            assert_eq!(effect(&walk).holder, case.holder, "{walk}");
+        }
+        assert_eq!(case.holder, first);
+    }
+}
+
+#[test]
+fn a_holder_is_at_the_stage_of_its_key() {
+    for key_length in [12, 18, 24] {
+        for number in 0..key_length {
+            let mut stage = block_case(Call::Stage, key_length, 0);
+            stage.stage = u32::from(number);
+            stage.out = 24;
+            let mut walk = holder_case(Call::HolderWalk, key_length, 0, &stage.key);
+            walk.stage = u32::from(number);
+            let walked = effect(&walk).holder;
+            let right = [vec![key_length, number], effect(&stage).written].concat();
+            assert_eq!(walked, right, "{walk}");
+            stage.call = Call::Subkey;
+            walk.call = Call::HolderSubkey;
+            walk.holder = walked;
+            assert_eq!(effect(&walk).written, effect(&stage).written, "{walk}");
+        }
+    }
+}
+
+/// Whether every call refuses a holder with 24, and leaves it as it is; or none does.
+fn is_broken(holder: &[u8]) -> bool {
+    let refuses = |&call: &Call| {
+        let mut case = holder_case(call, 0, 0, &[]);
+        case.holder = holder.to_vec();
+        let effect = effect(&case);
+        let refused = effect.answer == 24;
+        assert!(!refused || effect.holder == holder && effect.written.is_empty());
+        refused
+    };
+    let refusing = HOLDING.iter().filter(|call| refuses(call)).count();
+    assert!(refusing == 0 || refusing == HOLDING.len(), "{holder:?}");
+    refusing > 0
+}
+
+#[test]
+fn a_holder_names_the_length_of_a_key() {
+    for key_length in 0..=255 {
+        let case = holder_case(Call::HolderForward, key_length, 0, &[1; 12]);
+        let right = [12, 18, 24].contains(&key_length);
+        assert_eq!(is_broken(&case.holder), !right, "{case}");
+    }
+}
+
+#[test]
+fn a_holder_is_at_a_stage_below_its_keys_length() {
+    for key_length in [12, 18, 24] {
+        for number in 0..=255 {
+            let case = holder_case(Call::HolderForward, key_length, number, &[1; 12]);
+            assert_eq!(is_broken(&case.holder), number >= key_length, "{case}");
+        }
+    }
+}
+
+#[test]
+fn a_holder_has_zeros_past_its_key() {
+    for key_length in [12, 18, 24] {
+        for place in 2..26 {
+            let mut case = holder_case(Call::HolderForward, key_length, 1, &[]);
+            case.holder[place] = 0x80;
+            let past = place >= 2 + usize::from(key_length);
+            assert_eq!(is_broken(&case.holder), past, "{case}");
+        }
+    }
+}
+
+#[test]
+fn a_holder_has_26_bytes() {
+    for length in (0..100).chain([282, 65_562]) {
+        let mut case = holder_case(Call::HolderForward, 12, 0, &[1; 12]);
+        case.holder.resize(length, 0);
+        assert_eq!(is_broken(&case.holder), length != 26, "{case}");
+    }
+}
+
+/// What is wrong in a holder does not keep a stage from being past the key that it names, if it
+/// names one.
+#[test]
+fn a_broken_holder_and_a_stage_past_its_key() {
+    let mut case = holder_case(Call::HolderWalk, 18, 18, &[]);
+    case.stage = 18;
+    assert_eq!(expected(&case, &mut Oracle::new()).reasons, [24, 5]);
+    case.stage = 17;
+    assert_eq!(expected(&case, &mut Oracle::new()).reasons, [24]);
+    case.holder[..2].copy_from_slice(&[12, 0]);
+    case.holder[25] = 1;
+    assert_eq!(expected(&case, &mut Oracle::new()).reasons, [24, 5]);
+    case.holder[0] = 13;
+    assert_eq!(expected(&case, &mut Oracle::new()).reasons, [24]);
+    case.holder.push(0);
+    case.holder[0] = 12;
+    assert_eq!(expected(&case, &mut Oracle::new()).reasons, [24]);
 }
 
 #[test]

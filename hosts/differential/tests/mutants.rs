@@ -8,6 +8,7 @@ use gordzila_differential::call::{Argument, Argument as A, Call};
 use gordzila_differential::case::Case;
 use gordzila_differential::compare::differences;
 use gordzila_differential::expect::{needed, Effect, Expected};
+use gordzila_differential::holders::HOLDER_BYTES;
 use gordzila_differential::lend::{Bytes, Lent, Library};
 use gordzila_differential::random::Random;
 use gordzila_differential::work::{family_cases, FAMILY};
@@ -76,6 +77,7 @@ fn input(argument: Argument, lent: &Lent) -> Option<Bytes> {
     match argument {
         Argument::Key => Some(lent.key),
         Argument::Roll => Some(lent.roll),
+        Argument::Holder => Some(lent.holder),
         Argument::List => Some(lent.list),
         Argument::Block | Argument::Grant => Some(lent.block),
         _ => None,
@@ -84,7 +86,7 @@ fn input(argument: Argument, lent: &Lent) -> Option<Bytes> {
 
 /// The calls with each argument of theirs that is an input of bytes.
 fn inputs() -> impl Iterator<Item = (Call, Argument)> {
-    let bytes = [A::Key, A::Roll, A::List, A::Block, A::Grant];
+    let bytes = [A::Key, A::Roll, A::Holder, A::List, A::Block, A::Grant];
     let all = Call::ALL.into_iter().flat_map(|call| {
         let arguments = call.arguments().iter();
         arguments.map(move |&argument| (call, argument))
@@ -240,6 +242,226 @@ fn a_roll_that_is_not_changed_is_found() {
     }
 }
 
+/// The calls that write to a holder.
+const MOVING: [Call; 3] = [Call::HolderForward, Call::HolderBack, Call::HolderWalk];
+
+/// The calls on a holder.
+const HOLDING: [Call; 4] = [
+    Call::HolderForward,
+    Call::HolderBack,
+    Call::HolderWalk,
+    Call::HolderSubkey,
+];
+
+/// Whether an answer is no refusal.
+fn is_done(answer: u32) -> bool {
+    answer == 0 || answer >= 1000
+}
+
+/// How many stages the key has that is lent, or that the lent holder names.
+fn stages(lent: &Lent) -> u32 {
+    let named = copied(lent.holder).first().copied();
+    named.map_or(lent.key.length as u32, u32::from)
+}
+
+/// Puts other bytes in place of lent ones.
+fn put(bytes: Bytes, other: &[u8]) {
+    assert_eq!(bytes.length, other.len());
+    unsafe { bytes.start.copy_from(other.as_ptr(), other.len()) };
+}
+
+#[test]
+fn a_holder_that_is_not_changed_is_found() {
+    for call in MOVING {
+        always_found(call, |lent| {
+            let before = copied(lent.holder);
+            let answer = archive(call, lent);
+            let is_wrong = copied(lent.holder) != before;
+            put(lent.holder, &before);
+            (answer, is_wrong)
+        });
+    }
+}
+
+#[test]
+fn a_wrong_byte_of_a_holder_is_found_at_every_place() {
+    for call in MOVING {
+        let turn = AtomicUsize::new(0);
+        always_found(call, |lent| {
+            let answer = archive(call, lent);
+            if is_done(answer) {
+                let place = turn.fetch_add(1, Ordering::Relaxed) % HOLDER_BYTES;
+                poke(lent.holder, place as isize);
+            }
+            (answer, is_done(answer))
+        });
+        assert!(turn.into_inner() > 10 * HOLDER_BYTES);
+    }
+}
+
+#[test]
+fn a_holder_changed_by_a_refusal_is_found() {
+    for call in HOLDING {
+        let turn = AtomicUsize::new(0);
+        always_found(call, |lent| {
+            let answer = archive(call, lent);
+            let is_wrong = !is_done(answer) && lent.holder.length > 0;
+            if is_wrong {
+                let place = turn.fetch_add(1, Ordering::Relaxed) % lent.holder.length;
+                poke(lent.holder, place as isize);
+            }
+            (answer, is_wrong)
+        });
+        assert!(turn.into_inner() > 10 * HOLDER_BYTES);
+    }
+}
+
+#[test]
+fn a_key_length_and_a_number_that_changed_places_are_found() {
+    let swap = |bytes: Bytes| unsafe { bytes.start.swap(bytes.start.wrapping_add(1)) };
+    for call in MOVING {
+        always_found(call, |lent| {
+            let answer = archive(call, lent);
+            if is_done(answer) {
+                swap(lent.holder);
+            }
+            (answer, is_done(answer))
+        });
+    }
+    always_found(Call::HolderMake, |lent| {
+        let answer = archive(Call::HolderMake, lent);
+        if answer == 0 {
+            swap(lent.out);
+        }
+        (answer, answer == 0)
+    });
+}
+
+#[test]
+fn a_step_too_many_is_found() {
+    for more in [Call::HolderForward, Call::HolderBack] {
+        for call in MOVING {
+            always_found(call, |lent| {
+                let answer = archive(call, lent);
+                if is_done(answer) {
+                    archive(more, lent);
+                }
+                (answer, is_done(answer))
+            });
+        }
+        always_found(Call::HolderMake, |lent| {
+            let answer = archive(Call::HolderMake, lent);
+            if answer == 0 {
+                let mut made = *lent;
+                made.holder = lent.out;
+                made.holder.length = HOLDER_BYTES;
+                archive(more, &made);
+            }
+            (answer, answer == 0)
+        });
+    }
+}
+
+#[test]
+fn the_subkey_of_a_stage_beside_is_found() {
+    for step in [Call::HolderForward, Call::HolderBack] {
+        always_found(Call::HolderSubkey, |lent| {
+            let mut beside = copied(lent.holder);
+            let mut lent = *lent;
+            lent.holder.start = beside.as_mut_ptr();
+            archive(step, &lent);
+            let answer = archive(Call::HolderSubkey, &lent);
+            (answer, answer == 0)
+        });
+    }
+}
+
+/// Tries a library that walks as it has to, and answers something else: what is made of the way (1
+/// forward, 2 back), the steps, and the stages of the key.
+fn misreported_walks_are_found(report: impl Fn(u32, u32, u32) -> u32 + Sync) {
+    always_found(Call::HolderWalk, |lent| {
+        let answer = archive(Call::HolderWalk, lent);
+        let reported = match is_done(answer) {
+            true => report(answer / 1000, answer % 1000, stages(lent)),
+            false => answer,
+        };
+        (reported, reported != answer)
+    });
+}
+
+#[test]
+fn a_walk_that_reports_something_else_is_found() {
+    // The other way, with its steps or those that were made.
+    misreported_walks_are_found(|way, steps, stages| 1000 * (3 - way) + stages - steps);
+    misreported_walks_are_found(|way, steps, _| 1000 * (3 - way) + steps);
+    // One way always.
+    misreported_walks_are_found(|way, steps, stages| match way {
+        1 => 1000 + steps,
+        _ => 1000 + stages - steps,
+    });
+    misreported_walks_are_found(|_, steps, _| 1000 + steps);
+    misreported_walks_are_found(|_, steps, _| 2000 + steps);
+    // Back, where no step is made, and where both ways are as long.
+    misreported_walks_are_found(|way, steps, _| 1000 * way + steps + 1000 * u32::from(steps == 0));
+    misreported_walks_are_found(|way, steps, stages| {
+        1000 * way + steps + 1000 * u32::from(2 * steps == stages)
+    });
+    // No way.
+    misreported_walks_are_found(|_, steps, _| steps);
+}
+
+/// Tries libraries that take broken holders of 26 bytes for others, which are whole in some cases.
+fn broken_holders_taken_for_whole_are_found(change: impl Fn(&mut [u8]) + Sync) {
+    for call in HOLDING {
+        always_found(call, |lent| {
+            let before = copied(lent.holder);
+            let mut other = before.clone();
+            if other.len() == HOLDER_BYTES {
+                change(&mut other);
+            }
+            put(lent.holder, &other);
+            let answer = archive(call, lent);
+            if !is_done(answer) || call == Call::HolderSubkey {
+                put(lent.holder, &before);
+            }
+            (answer, other != before && answer != 24)
+        });
+    }
+}
+
+#[test]
+fn broken_holders_that_are_not_refused_are_found() {
+    // The bytes past the key are not looked at.
+    broken_holders_taken_for_whole_are_found(|holder| {
+        let past = 2 + usize::from(holder[0].min(24));
+        holder[past..].fill(0);
+    });
+    broken_holders_taken_for_whole_are_found(|holder| {
+        if holder[0] < 24 {
+            holder[2 + usize::from(holder[0])] = 0;
+        }
+    });
+    broken_holders_taken_for_whole_are_found(|holder| {
+        if holder[0] < 24 {
+            holder[HOLDER_BYTES - 1] = 0;
+        }
+    });
+    // The number is not looked at, or may be the key's length, or loses a bit.
+    broken_holders_taken_for_whole_are_found(|holder| holder[1] %= holder[0].max(1));
+    broken_holders_taken_for_whole_are_found(|holder| {
+        holder[1] -= u8::from(holder[1] == holder[0] && holder[1] > 0);
+    });
+    broken_holders_taken_for_whole_are_found(|holder| holder[1] &= 0x7f);
+    // The key length may be another one.
+    broken_holders_taken_for_whole_are_found(|holder| {
+        holder[0] += u8::from([11, 17, 23].contains(&holder[0]));
+    });
+    broken_holders_taken_for_whole_are_found(|holder| {
+        holder[0] -= u8::from([13, 19, 25].contains(&holder[0]));
+    });
+    broken_holders_taken_for_whole_are_found(|holder| holder[0] = holder[0].clamp(12, 24));
+}
+
 /// Tries libraries that take an argument for something else, for each call that takes it.
 fn taken_for_something_else(argument: Argument, change: impl Fn(&mut Lent) + Sync) {
     let takes = |call: &Call| call.arguments().contains(&argument);
@@ -272,6 +494,7 @@ fn lengths_cut_to_fewer_bits_are_found() {
     taken_for_something_else(Argument::Out, |lent| lent.out.length &= 0xff);
     taken_for_something_else(Argument::Roll, |lent| lent.roll.length &= 0xffff);
     for mask in [0xff, 0xffff] {
+        taken_for_something_else(Argument::Holder, |lent| lent.holder.length &= mask);
         taken_for_something_else(Argument::List, |lent| lent.list.length &= mask);
         taken_for_something_else(Argument::Block, |lent| lent.block.length &= mask);
         taken_for_something_else(Argument::Grant, |lent| lent.block.length &= mask);
@@ -290,7 +513,7 @@ fn limits_that_are_off_by_one_are_found() {
         lent.right -= u32::from(lent.right == 3);
     });
     taken_for_something_else(Argument::Stage, |lent| {
-        lent.stage -= u32::from(lent.stage as usize == lent.key.length && lent.stage > 0);
+        lent.stage -= u32::from(lent.stage == stages(lent) && lent.stage > 0);
     });
     taken_for_something_else(Argument::Rounds, |lent| {
         lent.rounds -= u32::from([12, 18, 24].contains(&lent.rounds));
@@ -300,6 +523,15 @@ fn limits_that_are_off_by_one_are_found() {
     });
     taken_for_something_else(Argument::List, |lent| {
         lent.list.length -= usize::from(lent.list.length == 289);
+    });
+    taken_for_something_else(Argument::Holder, |lent| {
+        lent.holder.length = lent.holder.length.min(HOLDER_BYTES);
+    });
+    taken_for_something_else(Argument::Holder, |lent| {
+        lent.holder.length -= usize::from(lent.holder.length == 27);
+    });
+    taken_for_something_else(Argument::Holder, |lent| {
+        lent.holder.length += usize::from(lent.holder.length == 25);
     });
 }
 
@@ -332,6 +564,12 @@ fn a_wrong_expectation_is_found() {
         if !expected.effect.written.is_empty() {
             let mut effect = expected.effect.clone();
             effect.written[0] ^= 0x80;
+            assert!(differs(case, &effect, &archive, &mut random), "{case}");
+            tried += 1;
+        }
+        if !expected.effect.holder.is_empty() {
+            let mut effect = expected.effect.clone();
+            effect.holder[0] ^= 0x80;
             assert!(differs(case, &effect, &archive, &mut random), "{case}");
             tried += 1;
         }

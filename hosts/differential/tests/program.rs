@@ -90,6 +90,23 @@ fn everything_that_can_occur_occurs_and_nothing_else() {
 }
 
 #[test]
+fn a_difference_of_a_holder_is_printed_in_full() {
+    let library = |call: Call, lent: &Lent| {
+        let answer = archive(call, lent);
+        if call == Call::HolderWalk && answer >= 1000 {
+            unsafe { *lent.holder.start ^= 0x40 };
+        }
+        answer
+    };
+    let outcome = work(&plan(500, 2), &library);
+    let text = outcome.first[0].to_string();
+    assert!(text.contains(": holder_walk holder=26:"), "{text}");
+    assert!(text.contains(" stage="), "{text}");
+    assert!(text.contains("\n    holder is 26:"), "{text}");
+    assert!(text.contains(", but has to be 26:"), "{text}");
+}
+
+#[test]
 fn a_difference_is_printed_in_full() {
     let library = |call: Call, lent: &Lent| match call {
         Call::Enter => archive(call, lent) ^ 64,

@@ -5,11 +5,12 @@ use std::sync::Mutex;
 use gordzila_differential::call::Call;
 use gordzila_differential::case::Case;
 use gordzila_differential::expect::{needed, Expected};
+use gordzila_differential::holders::{is_whole, key_length, HOLDER_BYTES};
 use gordzila_differential::rolls::{count, is_contractor};
 use gordzila_differential::work::{family_cases, FAMILY};
 
 const SEED: u64 = 11;
-const FAMILIES: u64 = 300;
+const FAMILIES: u64 = 400;
 
 /// The cases among which all is looked for. They are drawn once, by the test that comes first.
 fn cases() -> &'static [(Case, Expected)] {
@@ -25,15 +26,24 @@ fn cases() -> &'static [(Case, Expected)] {
 /// With each of the calls, each of the values occurs.
 fn occur<T: PartialEq + std::fmt::Debug>(calls: &[Call], values: &[T], value: impl Fn(&Case) -> T) {
     for &call in calls {
-        for wanted in values {
-            let mut of_call = cases().iter().filter(|pair| pair.0.call == call);
-            let found = of_call.any(|(case, _)| value(case) == *wanted);
-            assert!(found, "{} never has {wanted:?}", call.name());
-        }
+        occur_among(&[call], values, &value);
     }
 }
 
-const KEYED: [Call; 8] = [
+/// With one or another of the calls, each of the values occurs.
+fn occur_among<T: PartialEq + std::fmt::Debug>(
+    calls: &[Call],
+    values: &[T],
+    value: impl Fn(&Case) -> T,
+) {
+    for wanted in values {
+        let mut of_calls = cases().iter().filter(|pair| calls.contains(&pair.0.call));
+        let found = of_calls.any(|(case, _)| value(case) == *wanted);
+        assert!(found, "{calls:?} never has {wanted:?}");
+    }
+}
+
+const KEYED: [Call; 9] = [
     Call::Encipher,
     Call::Decipher,
     Call::PrepareEnciphering,
@@ -42,9 +52,17 @@ const KEYED: [Call; 8] = [
     Call::Check,
     Call::Stage,
     Call::Subkey,
+    Call::HolderMake,
 ];
 
 const ROLL: [Call; 4] = [Call::Issue, Call::Check, Call::Enter, Call::Withdraw];
+
+const HOLDING: [Call; 4] = [
+    Call::HolderForward,
+    Call::HolderBack,
+    Call::HolderWalk,
+    Call::HolderSubkey,
+];
 
 #[test]
 fn lengths_occur() {
@@ -52,6 +70,8 @@ fn lengths_occur() {
     occur(&KEYED, &keys, |case| case.key.len());
     let rolls = [400, 0, 399, 401, 600, 65_936];
     occur(&ROLL, &rolls, |case| case.roll.len());
+    let holders = [26, 0, 1, 24, 25, 27, 282, 65_562];
+    occur(&HOLDING, &holders, |case| case.holder.len());
     let blocks = [12, 0, 1, 11, 13, 24, 268, 65_548];
     let taking = [Call::Encipher, Call::Decipher, Call::Run, Call::Check];
     occur(&taking, &blocks, |case| case.block.len());
@@ -76,12 +96,22 @@ fn numbers_occur() {
     occur(&taking, &rights, |case| case.right);
     occur(&taking, &[0, 1, u32::MAX], |case| case.size_block);
     let stages: Vec<u32> = (0..=25).chain([u32::MAX]).collect();
-    occur(&[Call::Stage, Call::Subkey], &stages, |case| case.stage);
+    let taking = [Call::Stage, Call::Subkey, Call::HolderWalk];
+    occur(&taking, &stages, |case| case.stage);
+    let high = [1 << 8, 1 << 16, 1 << 24, 1 << 31];
+    occur(&taking, &high, |case| case.stage & !31);
 }
 
 #[test]
 fn outputs_of_all_lengths_occur() {
-    for call in [&KEYED[..5], &[Call::Run, Call::Stage, Call::Subkey]].concat() {
+    let others = [
+        Call::Run,
+        Call::Stage,
+        Call::Subkey,
+        Call::HolderMake,
+        Call::HolderSubkey,
+    ];
+    for call in [&KEYED[..5], &others].concat() {
         let rest = |case: &Case| case.out as i64 - needed(case) as i64;
         occur(&[call], &[-1, 0, 1], rest);
         occur(&[call], &[true], |case| rest(case) > 1);
@@ -105,8 +135,9 @@ fn counts_near_the_end_occur() {
 #[test]
 fn grants_open_for_both_rights_and_the_ends_of_the_contractors() {
     for answer in [1001, 1200, 2001, 2200] {
-        let mut answers = cases().iter().map(|pair| pair.1.effect.answer);
-        assert!(answers.any(|found| found == answer), "{answer}");
+        let mut checks = cases().iter().filter(|pair| pair.0.call == Call::Check);
+        let found = checks.any(|pair| pair.1.effect.answer == answer);
+        assert!(found, "{answer}");
     }
 }
 
@@ -119,4 +150,101 @@ fn blocks_lent_from_the_keys_bytes_occur() {
         .collect();
     assert!(shared.len() > 100);
     assert!(shared.iter().all(|case| case.key.starts_with(&case.block)));
+}
+
+#[test]
+fn whole_holders_at_every_stage_occur() {
+    for length in [12, 18, 24] {
+        let stages: Vec<_> = (0..length).map(|number| Some([length, number])).collect();
+        occur(&HOLDING, &stages, |case| {
+            is_whole(&case.holder).then(|| [case.holder[0], case.holder[1]])
+        });
+    }
+}
+
+#[test]
+fn whole_holders_of_other_keys_than_the_familys_occur() {
+    let families = cases().chunks(FAMILY as usize);
+    let mixed = families.filter(|family| {
+        let mut lengths: Vec<usize> = family
+            .iter()
+            .filter(|pair| is_whole(&pair.0.holder))
+            .filter_map(|pair| key_length(&pair.0.holder))
+            .collect();
+        lengths.sort_unstable();
+        lengths.dedup();
+        lengths.len() > 1
+    });
+    assert!(mixed.count() > 100);
+}
+
+/// The key length and the number that a holder of 26 bytes names, and the places past such a key at
+/// which it has another byte than 0.
+fn named(case: &Case) -> Option<(u8, u8, Vec<usize>)> {
+    if case.holder.len() != HOLDER_BYTES {
+        return None;
+    }
+    let (length, number) = (case.holder[0], case.holder[1]);
+    let past = 2 + usize::from(length)..HOLDER_BYTES;
+    let filled = past.filter(|&place| case.holder[place] != 0);
+    Some((length, number, filled.collect()))
+}
+
+#[test]
+fn broken_holders_of_every_kind_occur() {
+    let lengths = [0, 11, 13, 17, 19, 23, 25, 255].map(Some);
+    occur(&HOLDING, &lengths, |case| named(case).map(|named| named.0));
+    for length in [12, 18, 24] {
+        let numbers = [length, length + 1, 0x80, 0x80 + length - 1, 255];
+        let numbers = numbers.map(|number| Some((length, number)));
+        occur_among(&HOLDING, &numbers, |case| {
+            let (length, number, filled) = named(case)?;
+            filled.is_empty().then_some((length, number))
+        });
+        let places = 2 + usize::from(length)..HOLDER_BYTES;
+        let places: Vec<_> = places.map(|place| Some((length, vec![place]))).collect();
+        occur_among(&HOLDING, &places, |case| {
+            let (length, number, filled) = named(case)?;
+            (number < length).then_some((length, filled))
+        });
+    }
+}
+
+#[test]
+fn holders_that_name_another_key_length_occur() {
+    occur_among(&HOLDING, &[true], |case| {
+        named(case).map_or(false, |named| named.0 == 12 && named.2.len() > 6)
+    });
+    occur_among(&HOLDING, &[true], |case| {
+        is_whole(&case.holder) && case.holder[0] == 24 && case.holder[14..] == [0; 12]
+    });
+}
+
+#[test]
+fn walks_of_every_number_of_steps_occur() {
+    for length in [12, 18, 24] {
+        let half = u32::from(length) / 2;
+        for answer in (1000..=1000 + half).chain(2001..2000 + half) {
+            let mut walks = cases()
+                .iter()
+                .filter(|pair| pair.0.call == Call::HolderWalk);
+            let found = walks.any(|(case, expected)| {
+                case.holder.first() == Some(&length) && expected.effect.answer == answer
+            });
+            assert!(found, "{answer} with a key of {length} bytes");
+        }
+    }
+}
+
+#[test]
+fn walks_past_the_end_of_whole_holders_occur() {
+    let past = |case: &Case| {
+        let whole = is_whole(&case.holder);
+        whole.then(|| case.stage.wrapping_sub(u32::from(case.holder[0])))
+    };
+    occur(&[Call::HolderWalk], &[Some(0), Some(1)], past);
+    let high = [1 << 8, 1 << 16, 1 << 24, 1 << 31].map(Some);
+    occur(&[Call::HolderWalk], &high, |case| {
+        is_whole(&case.holder).then_some(case.stage & !31)
+    });
 }

@@ -10,12 +10,12 @@ use borrow.Author.Tests.{ltb-true, leb-true}
 use Rattle.refusal.specs.Reasons.{outcomeNumber}
 use Rattle.refusal.specs.Tries.{Try, _unless_, first, NoneHolds}
 use Rattle.refusal.proofs.Ladder.{then, all-passed, returns-refused, returns-done}
+use Rattle.block_bytes.proofs.Put.{put-first}
 use Rattle.sizes.specs.Sizes.{tOf}
 use Rattle.stages.specs.Columns.{padded}
 use Rattle.stages.specs.Stages.{stage}
 use Rattle.holder_from_key.specs.FromKey.{straightTries}
 use Rattle.stage_calls.specs.StageCalls.{stageCallTries, stageCallOutput}
-use Rattle.stage_calls.proofs.Straight.{put-first}
 use borrow.Author.Needs.{needs}
 use Rattle.stage_calls.proofs.stage.Statement.{statement}
 use Rattle.stage_calls.proofs.stage.Tie as tie

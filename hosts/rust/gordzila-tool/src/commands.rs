@@ -1,12 +1,12 @@
-//! The subcommands. Each reads its options, makes its call and says what to print.
+//! The subcommands. Each reads its options, makes its calls and says what to print.
 
 use crate::failure::{Answer, Failure};
 use crate::options::{
-    Options, BLOCK, CONTRACTOR, GRANT, KEY, KEY_FILE, RIGHT, ROLL, ROUNDS, STAGE,
+    Options, BLOCK, CONTRACTOR, FROM, GRANT, KEY, KEY_FILE, RIGHT, ROLL, ROUNDS, STAGE, TO,
 };
 use crate::printing::Done::{self, Changed, Told};
 use crate::{help, hex, rolls};
-use gordzila::{raw, Reason, Roll, BLOCK_BYTES, CONTRACTORS};
+use gordzila::{raw, KeyHolder, Reason, Roll, Walked, BLOCK_BYTES, CONTRACTORS};
 use std::ffi::{OsStr, OsString};
 
 /// A call that writes 12 bytes under a key, for a block of 12 bytes.
@@ -27,6 +27,7 @@ pub fn run(name: &OsStr, words: &[OsString]) -> Result<Done, Failure> {
         "encipher" => cipher(words, raw::encipher).map(Told),
         "decipher" => cipher(words, raw::decipher).map(Told),
         "stage" => stage(words).map(Told),
+        "walk" => walk(words).map(Told),
         "enter" => change(words, "entered", Roll::enter).map(Changed),
         "withdraw" => change(words, "withdrawn", Roll::withdraw).map(Changed),
         _ => roll(words),
@@ -92,9 +93,18 @@ fn cipher(words: &[OsString], call: CipherCall) -> Answer {
 fn stage(words: &[OsString]) -> Answer {
     let options = Options::parse(words, &[KEY, KEY_FILE, STAGE])?;
     let (key, n) = (options.key()?, options.number(STAGE)?);
-    let stage = hex::digits_of(&gordzila::stage(&key, n)?);
-    let subkey = hex::digits_of(&gordzila::subkey(&key, n)?);
-    Ok(format!("stage {n}: {stage}\nsubkey {n}: {subkey}\n"))
+    let (stage, subkey) = (gordzila::stage(&key, n)?, gordzila::subkey(&key, n)?);
+    Ok(lines_of(n, &stage, &subkey))
+}
+
+fn walk(words: &[OsString]) -> Answer {
+    let options = Options::parse(words, &[KEY, KEY_FILE, FROM, TO])?;
+    let (key, from, to) = (options.key()?, options.number(FROM)?, options.number(TO)?);
+    let mut holder = KeyHolder::new(&key)?;
+    holder.walk(from)?;
+    let Walked { steps, way } = holder.walk(to)?;
+    let lines = lines_of(holder.stage_number(), holder.stage(), &holder.subkey());
+    Ok(format!("steps: {steps} {way}\n{lines}"))
 }
 
 fn change(words: &[OsString], done: &str, call: RollCall) -> Answer {
@@ -138,6 +148,11 @@ fn list(words: &[OsString]) -> Answer {
 
 fn line_of(bytes: &[u8]) -> String {
     hex::digits_of(bytes) + "\n"
+}
+
+fn lines_of(n: u32, stage: &[u8], subkey: &[u8]) -> String {
+    let (stage, subkey) = (hex::digits_of(stage), hex::digits_of(subkey));
+    format!("stage {n}: {stage}\nsubkey {n}: {subkey}\n")
 }
 
 fn line_on(roll: &Roll, contractor: u32) -> String {

@@ -5,8 +5,8 @@ use crate::failure::{Answer, Failure};
 use std::ffi::OsString;
 
 /// The subcommands.
-pub const NAMES: [&str; 8] = [
-    "issue", "check", "encipher", "decipher", "stage", "enter", "withdraw", "roll",
+pub const NAMES: [&str; 9] = [
+    "issue", "check", "encipher", "decipher", "stage", "walk", "enter", "withdraw", "roll",
 ];
 
 /// The help that the words after `help` ask for.
@@ -26,6 +26,7 @@ pub fn of(name: &str) -> String {
         "encipher" => ENCIPHER,
         "decipher" => DECIPHER,
         "stage" => STAGE,
+        "walk" => WALK,
         "enter" => ENTER,
         "withdraw" => WITHDRAW,
         _ => ROLL,
@@ -43,6 +44,7 @@ usage: gordzila SUBCOMMAND OPTIONS
   encipher   encipher one block
   decipher   decipher one block
   stage      show a stage of a key and its subkey
+  walk       walk a key holder from one stage to another
   enter      enter a contractor on a roll
   withdraw   withdraw a contractor on a roll
   roll       make an empty roll, or list who is in standing
@@ -119,6 +121,23 @@ usage: gordzila stage OPTIONS
   --key HEX         the key, 12, 18 or 24 bytes
   --key-file FILE   the same, from a file of hexadecimal digits
   --stage N         the number of the stage, below the key's length in bytes
+";
+
+const WALK: &str = "\
+Walks a key holder from one stage to another, the shorter way; forward where
+both are as long. Prints how many steps it went and which way, then the stage
+it came to, 24 bytes with zeros past the key's length, and the stage's subkey,
+12 bytes.
+
+usage: gordzila walk OPTIONS
+
+  --key HEX         the key, 12, 18 or 24 bytes
+  --key-file FILE   the same, from a file of hexadecimal digits
+  --from N          the stage it goes from, below the key's length in bytes
+  --to N            the stage it goes to, likewise
+
+Forward it goes from the last stage to stage 0, and back from stage 0 to the
+last.
 ";
 
 const ENTER: &str = "\

@@ -1,6 +1,6 @@
 //! A command-line tool over the proved access-control library, for those who test and
-//! support the store. It has no rule of its own: it reads options and files, makes one
-//! call, and prints what it answers.
+//! support the store. It has no rule of its own: it reads options and files, makes its
+//! calls, and prints what they answer.
 
 #![deny(unsafe_code)]
 

@@ -17,6 +17,8 @@ pub const BLOCK: &str = "--block";
 pub const RIGHT: &str = "--right";
 pub const GRANT: &str = "--grant";
 pub const STAGE: &str = "--stage";
+pub const FROM: &str = "--from";
+pub const TO: &str = "--to";
 
 /// The longest key file that is read. A key has 48 digits at most; no limit would let a
 /// file without end fill the memory.

@@ -144,7 +144,7 @@ pub fn subkey(key: &[u8], n: u32) -> Result<[u8; BLOCK_BYTES], Reason> {
 }
 
 /// What a call writes, all of `LENGTH` bytes, if it does not refuse.
-fn written<const LENGTH: usize>(
+pub(crate) fn written<const LENGTH: usize>(
     call: impl FnOnce(&mut [u8]) -> Result<(), Reason>,
 ) -> Result<[u8; LENGTH], Reason> {
     let mut out = [0; LENGTH];

@@ -29,6 +29,9 @@
 //! # Ok::<(), Reason>(())
 //! ```
 //!
+//! A [`KeyHolder`] has one stage of a key and goes to the others, step by step or by
+//! walks.
+//!
 //! The calls keep no state and may be made from any thread. Their time depends on the
 //! key and the data: they are not made to resist an observer of time.
 
@@ -37,17 +40,21 @@
 
 mod calls;
 mod grants;
+mod holder;
 pub mod raw;
 mod reason;
 mod roll;
 // The only file with unsafe code.
 #[allow(unsafe_code)]
 mod sys;
+mod walks;
 
 pub use calls::{
     check, decipher, encipher, issue, prepare_deciphering, prepare_enciphering, run, stage, subkey,
     BLOCK_BYTES, STAGE_BYTES,
 };
 pub use grants::{Opened, Right};
+pub use holder::{KeyHolder, HOLDER_BYTES};
 pub use reason::Reason;
 pub use roll::{Roll, CONTRACTORS, ROLL_BYTES};
+pub use walks::{Walked, Way};

@@ -25,15 +25,20 @@
 //! header does not have. That takes an archive that does not belong to this package.
 
 pub use crate::sys::{
-    check_number, decipher_number, encipher_number, enter_number, issue_number,
-    prepare_deciphering_number, prepare_enciphering_number, run_number, stage_number,
+    check_number, decipher_number, encipher_number, enter_number, holder_back_number,
+    holder_forward_number, holder_make_number, holder_subkey_number, holder_walk_number,
+    issue_number, prepare_deciphering_number, prepare_enciphering_number, run_number, stage_number,
     subkey_number, withdraw_number,
 };
-use crate::{Opened, Reason, Right, CONTRACTORS};
+use crate::{Opened, Reason, Right, Walked, Way, CONTRACTORS};
 
 /// An answer from this number on says that a grant opens; it is this number times the
 /// right, plus the contractor.
 const OPENS: u32 = 1000;
+
+/// An answer from this number on says that a holder walked; it is this number, or twice
+/// this number for a walk back, plus the steps.
+const WALKED: u32 = 1000;
 
 /// Checks a grant for one size block and one right. Order: 1, 2, 3 (grant or roll), 7,
 /// 8, 9, 10, 20, 23.
@@ -112,6 +117,34 @@ pub fn subkey(key: &[u8], n: u32, out: &mut [u8]) -> Result<(), Reason> {
     done(subkey_number(key, n, out))
 }
 
+/// Makes a key holder at stage 0: 26 bytes to `out`. Order: 1, 4.
+pub fn holder_make(key: &[u8], out: &mut [u8]) -> Result<(), Reason> {
+    done(holder_make_number(key, out))
+}
+
+/// Steps a holder's 26 bytes to the next stage, and from the last to stage 0. Order:
+/// 24.
+pub fn holder_forward(holder: &mut [u8]) -> Result<(), Reason> {
+    done(holder_forward_number(holder))
+}
+
+/// Steps a holder's 26 bytes to the stage before, and from stage 0 to the last. Order:
+/// 24.
+pub fn holder_back(holder: &mut [u8]) -> Result<(), Reason> {
+    done(holder_back_number(holder))
+}
+
+/// Walks a holder's 26 bytes to stage `n`, the shorter way; forward where both are as
+/// long. Order: 24, 5.
+pub fn holder_walk(holder: &mut [u8], n: u32) -> Result<Walked, Reason> {
+    walked(holder_walk_number(holder, n))
+}
+
+/// The subkey of the stage that a holder is at: 12 bytes to `out`. Order: 24, 4.
+pub fn holder_subkey(holder: &[u8], out: &mut [u8]) -> Result<(), Reason> {
+    done(holder_subkey_number(holder, out))
+}
+
 /// What a number says that is 0 or that of a reason.
 fn done(number: u32) -> Result<(), Reason> {
     match number {
@@ -132,19 +165,40 @@ fn opened(answer: u32) -> Result<Opened, Reason> {
     }
 }
 
+/// What an answer of a walk says. The shorter way has 12 steps at most, and back it has
+/// fewer: a walk is forward where both ways are as long, and where it has no step.
+fn walked(answer: u32) -> Result<Walked, Reason> {
+    if answer < WALKED {
+        return Err(reason(answer));
+    }
+    let steps = answer % WALKED;
+    match (answer / WALKED, steps) {
+        (1, 0..=12) => Ok(Walked {
+            steps,
+            way: Way::Forward,
+        }),
+        (2, 1..=11) => Ok(Walked {
+            steps,
+            way: Way::Back,
+        }),
+        _ => unknown(answer),
+    }
+}
+
 fn reason(number: u32) -> Reason {
     Reason::from_number(number).unwrap_or_else(|| unknown(number))
 }
 
-/// Nobody may take a number for an opening grant that the header does not explain.
+/// Nobody may take a number for an opening grant, or for a walk, that the header does
+/// not explain.
 fn unknown(number: u32) -> ! {
     panic!("the library answered {number}, which the header does not have")
 }
 
 #[cfg(test)]
 mod tests {
-    use super::{done, opened};
-    use crate::{Opened, Reason, Right};
+    use super::{done, opened, walked};
+    use crate::{Opened, Reason, Right, Walked, Way};
 
     #[test]
     fn zero_is_done_and_other_numbers_are_reasons() {
@@ -182,6 +236,32 @@ mod tests {
     fn an_answer_that_the_header_does_not_have_opens_nothing() {
         for answer in [0, 11, 999, 1000, 1201, 2000, 2201, 3001, u32::MAX] {
             assert!(std::panic::catch_unwind(|| opened(answer)).is_err());
+        }
+    }
+
+    #[test]
+    fn answers_from_1000_and_2001_on_are_walks() {
+        for (steps, answer) in (0..).zip(1000..=1012) {
+            let way = Way::Forward;
+            assert_eq!(walked(answer), Ok(Walked { steps, way }));
+        }
+        for (steps, answer) in (1..).zip(2001..=2011) {
+            let way = Way::Back;
+            assert_eq!(walked(answer), Ok(Walked { steps, way }));
+        }
+    }
+
+    #[test]
+    fn a_walk_refuses_below_1000() {
+        for reason in Reason::ALL {
+            assert_eq!(walked(reason.number()), Err(reason));
+        }
+    }
+
+    #[test]
+    fn an_answer_that_the_header_does_not_have_is_no_walk() {
+        for answer in [0, 11, 25, 999, 1013, 2000, 2012, 3001, u32::MAX] {
+            assert!(std::panic::catch_unwind(|| walked(answer)).is_err());
         }
     }
 }

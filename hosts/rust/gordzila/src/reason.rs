@@ -46,8 +46,9 @@ pub enum Reason {
     CountSpent = 22,
     /// 23: the grant's count differs from the roll's.
     OtherCount = 23,
-    /// 24: key holder with a wrong length, number or bytes past the key. No call that
-    /// stands in the header today gives it.
+    /// 24: holder not 26 bytes, or not whole: a wrong key length, a stage number that is
+    /// not below it, or bytes past it. Only the calls of [`raw`](crate::raw) and
+    /// [`KeyHolder::from_bytes`](crate::KeyHolder::from_bytes) can give it.
     BrokenHolder = 24,
 }
 
@@ -109,7 +110,10 @@ impl Reason {
             Reason::InStanding => "entering someone in standing",
             Reason::CountSpent => "entering at count 65,534 or 65,535",
             Reason::OtherCount => "the grant's count differs from the roll's",
-            Reason::BrokenHolder => "key holder with a wrong length, number or bytes past the key",
+            Reason::BrokenHolder => {
+                "holder not 26 bytes, or not whole: a wrong key length, \
+                 a stage number that is not below it, or bytes past it"
+            }
         }
     }
 }

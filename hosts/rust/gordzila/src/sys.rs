@@ -92,6 +92,21 @@ extern "C" {
         out: *mut u8,
         out_length: usize,
     ) -> u32;
+    fn gordzila_holder_make(
+        key: *const u8,
+        key_length: usize,
+        out: *mut u8,
+        out_length: usize,
+    ) -> u32;
+    fn gordzila_holder_forward(holder: *mut u8, holder_length: usize) -> u32;
+    fn gordzila_holder_back(holder: *mut u8, holder_length: usize) -> u32;
+    fn gordzila_holder_walk(holder: *mut u8, holder_length: usize, n: u32) -> u32;
+    fn gordzila_holder_subkey(
+        holder: *const u8,
+        holder_length: usize,
+        out: *mut u8,
+        out_length: usize,
+    ) -> u32;
 }
 
 /// The number that `gordzila_check` answers: that of a reason, or, where the grant
@@ -240,4 +255,37 @@ pub fn subkey_number(key: &[u8], n: u32, out: &mut [u8]) -> u32 {
     // SAFETY: pointers with the lengths of their slices; `out`, which is lent for
     // writing, overlaps no other slice.
     unsafe { gordzila_subkey(key.as_ptr(), key.len(), n, out.as_mut_ptr(), out.len()) }
+}
+
+/// The number that `gordzila_holder_make` answers: 0, or that of a reason.
+pub fn holder_make_number(key: &[u8], out: &mut [u8]) -> u32 {
+    // SAFETY: pointers with the lengths of their slices; `out`, which is lent for
+    // writing, overlaps no other slice.
+    unsafe { gordzila_holder_make(key.as_ptr(), key.len(), out.as_mut_ptr(), out.len()) }
+}
+
+/// The number that `gordzila_holder_forward` answers: 0, or that of a reason.
+pub fn holder_forward_number(holder: &mut [u8]) -> u32 {
+    // SAFETY: the pointer with the length of its slice, which is lent for writing.
+    unsafe { gordzila_holder_forward(holder.as_mut_ptr(), holder.len()) }
+}
+
+/// The number that `gordzila_holder_back` answers: 0, or that of a reason.
+pub fn holder_back_number(holder: &mut [u8]) -> u32 {
+    // SAFETY: the pointer with the length of its slice, which is lent for writing.
+    unsafe { gordzila_holder_back(holder.as_mut_ptr(), holder.len()) }
+}
+
+/// The number that `gordzila_holder_walk` answers: that of a reason, or, where the
+/// holder walked, its steps plus 1,000 forward or 2,000 back.
+pub fn holder_walk_number(holder: &mut [u8], n: u32) -> u32 {
+    // SAFETY: the pointer with the length of its slice, which is lent for writing.
+    unsafe { gordzila_holder_walk(holder.as_mut_ptr(), holder.len(), n) }
+}
+
+/// The number that `gordzila_holder_subkey` answers: 0, or that of a reason.
+pub fn holder_subkey_number(holder: &[u8], out: &mut [u8]) -> u32 {
+    // SAFETY: pointers with the lengths of their slices; `out`, which is lent for
+    // writing, overlaps no other slice.
+    unsafe { gordzila_holder_subkey(holder.as_ptr(), holder.len(), out.as_mut_ptr(), out.len()) }
 }

@@ -6,4 +6,5 @@ mod lives;
 mod rolls;
 mod running;
 mod usage;
+mod walks;
 mod writing;

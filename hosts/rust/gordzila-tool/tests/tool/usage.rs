@@ -5,12 +5,13 @@ use std::ffi::OsStr;
 use std::os::unix::ffi::OsStrExt;
 
 /// Each subcommand with all its options, `ROLL` for the name of a roll.
-const COMPLETE: [&str; 9] = [
+const COMPLETE: [&str; 10] = [
     "issue --key KEY --rounds 10 --roll ROLL --contractor 7 --block 300 --right 2",
     "check --key KEY --rounds 10 --roll ROLL --grant KEY --block 300 --right 2",
     "encipher --key KEY --rounds 10 --block KEY",
     "decipher --key KEY --rounds 10 --block KEY",
     "stage --key KEY --stage 3",
+    "walk --key KEY --from 3 --to 5",
     "enter --roll ROLL --contractor 8",
     "withdraw --roll ROLL --contractor 7",
     "roll list --roll ROLL",
@@ -113,12 +114,21 @@ fn no_other_option_is_taken() {
     }
     line("enter --roll x --contractor 1 --key 00").stopped("`--key` is no option");
     line("stage --rounds 10").stopped("`--rounds` is no option");
+    line("walk --stage 3").stopped("`--stage` is no option");
 }
 
 #[test]
 fn numbers_are_not_cut() {
     let room = Room::new("numbers");
-    let options = ["--rounds", "--contractor", "--block", "--right", "--stage"];
+    let options = [
+        "--rounds",
+        "--contractor",
+        "--block",
+        "--right",
+        "--stage",
+        "--from",
+        "--to",
+    ];
     for complete in COMPLETE {
         let words = words(complete, &room);
         // The block of a cipher call is no number.
@@ -192,7 +202,7 @@ fn help_is_there_for_all() {
     let tool = line("--help").done();
     assert_eq!(line("help").done(), tool);
     for name in [
-        "issue", "check", "encipher", "decipher", "stage", "enter", "withdraw", "roll",
+        "issue", "check", "encipher", "decipher", "stage", "walk", "enter", "withdraw", "roll",
     ] {
         let help = line(&format!("help {name}")).done();
         assert!(help.contains(&format!("usage: gordzila {name} ")), "{help}");
@@ -240,7 +250,7 @@ fn the_version_is_told() {
 #[test]
 fn output_that_gets_lost_is_told() {
     let room = Room::new("unheard");
-    for complete in ["--version", "help", "help issue", COMPLETE[0], COMPLETE[7]] {
+    for complete in ["--version", "help", "help issue", COMPLETE[0], COMPLETE[8]] {
         let run = run_unheard(&words(complete, &room));
         // These change nothing.
         assert!(!run.err.contains("change"), "{run:?}");

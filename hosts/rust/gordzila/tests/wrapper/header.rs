@@ -2,7 +2,7 @@
 //! be undefined behaviour, and no compiler would say so.
 
 use crate::repository_file;
-use gordzila::{Reason, Right, BLOCK_BYTES, ROLL_BYTES};
+use gordzila::{Reason, Right, BLOCK_BYTES, HOLDER_BYTES, ROLL_BYTES, STAGE_BYTES};
 
 const HEADER: &str = "include/gordzila.h";
 const DECLARATIONS: &str = "hosts/rust/gordzila/src/sys.rs";
@@ -36,7 +36,9 @@ fn the_rights_and_lengths_are_those_of_the_header() {
     for text in [
         format!("GORDZILA_READING = {reading}, GORDZILA_OVERWRITING = {overwriting}"),
         format!("GORDZILA_BLOCK_BYTES = {BLOCK_BYTES}, GORDZILA_GRANT_BYTES = {BLOCK_BYTES}"),
-        format!("GORDZILA_ROLL_BYTES = {ROLL_BYTES}"),
+        format!("GORDZILA_ROLL_BYTES = {ROLL_BYTES} }}"),
+        format!("GORDZILA_STAGE_BYTES = {STAGE_BYTES}, GORDZILA_SUBKEY_BYTES = {BLOCK_BYTES},"),
+        format!("GORDZILA_HOLDER_BYTES = {HOLDER_BYTES} }}"),
     ] {
         assert!(header.contains(&text), "{text}");
     }
@@ -46,7 +48,7 @@ fn the_rights_and_lengths_are_those_of_the_header() {
 fn the_declarations_are_those_of_the_header() {
     let header = in_c(&repository_file(HEADER));
     let declared = in_rust(&repository_file(DECLARATIONS));
-    assert_eq!(header.len(), 11);
+    assert_eq!(header.len(), 16);
     assert_eq!(declared, header);
 }
 

@@ -1,6 +1,6 @@
 //! The roll and the grants, against the stored output of the independent program.
 
-use crate::{block_of, bytes_of, number_of, repository_file};
+use crate::{block_of, bytes_of, digits_of, number_of, repository_file};
 use gordzila::{check, issue, Opened, Reason, Right, Roll};
 
 /// How many lines a life has.
@@ -72,10 +72,7 @@ impl Life {
     fn issue(&self) -> String {
         let (contractor, block, right) = (self.contractor, self.block, self.right);
         match issue(&self.key, self.rounds, &self.roll, contractor, block, right) {
-            Ok(grant) => {
-                let digits: String = grant.iter().map(|byte| format!("{byte:02x}")).collect();
-                format!("issue 0 {digits}")
-            }
+            Ok(grant) => format!("issue 0 {}", digits_of(&grant)),
             Err(reason) => format!("issue {}", reason.number()),
         }
     }

@@ -2,8 +2,12 @@
 //! printed.
 
 mod header;
+mod holder_refusals;
+mod holders;
 mod lives;
+mod readers;
 mod refusals;
+mod routes;
 mod vectors;
 
 use std::fs;
@@ -24,6 +28,11 @@ fn bytes_of(digits: &str) -> Vec<u8> {
         .step_by(2)
         .map(|at| u8::from_str_radix(&digits[at..at + 2], 16).unwrap())
         .collect()
+}
+
+/// The hexadecimal digits of bytes.
+fn digits_of(bytes: &[u8]) -> String {
+    bytes.iter().map(|byte| format!("{byte:02x}")).collect()
 }
 
 /// The 12 bytes of hexadecimal digits.

@@ -13,7 +13,7 @@ fn roll() -> [u8; 400] {
 /// The number that a call answers with an output of some length. If it is done, it has
 /// written as many bytes as are said, and otherwise none: two outputs that are filled
 /// differently show every byte that it writes.
-fn numbered(length: usize, written: usize, call: impl Fn(&mut [u8]) -> u32) -> u32 {
+pub fn numbered(length: usize, written: usize, call: impl Fn(&mut [u8]) -> u32) -> u32 {
     let (mut first, mut second) = (vec![0x55; length], vec![0xaa; length]);
     let number = call(&mut first);
     assert_eq!(call(&mut second), number);

@@ -1,0 +1,3 @@
+pub mod HolderBytes
+pub mod ForProver
+pub mod KnownAnswers

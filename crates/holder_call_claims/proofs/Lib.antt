@@ -1,0 +1,5 @@
+pub mod Lent
+pub mod Places
+pub mod Routes
+pub mod Codes
+pub mod Claims

@@ -1,0 +1,2 @@
+pub mod HolderRoutes
+pub mod Claims

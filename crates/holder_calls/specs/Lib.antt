@@ -1,0 +1,2 @@
+pub mod HolderCalls
+pub mod KnownAnswers

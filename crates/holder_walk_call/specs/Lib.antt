@@ -1,0 +1,2 @@
+pub mod WalkCall
+pub mod KnownAnswers

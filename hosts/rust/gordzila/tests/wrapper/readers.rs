@@ -1,0 +1,78 @@
+//! The readers of answers stand in the header as code. What the wrapper makes of an
+//! answer has to be what they say of it.
+
+use crate::repository_file;
+use gordzila::{raw, KeyHolder, Opened, Right, Roll, Walked, Way};
+
+/// The readers, each as it stands in the header.
+const READERS: [&str; 6] = [
+    "int gordzila_opens(uint32_t answer) { return answer >= 1000; }",
+    "uint32_t gordzila_answered_right(uint32_t answer) { return answer / 1000; }",
+    "uint32_t gordzila_answered_contractor(uint32_t answer) \
+     { return gordzila_opens(answer) ? answer % 1000 : 0; }",
+    "int gordzila_walked(uint32_t answer) { return answer >= 1000; }",
+    "uint32_t gordzila_walked_steps(uint32_t answer) \
+     { return gordzila_walked(answer) ? answer % 1000 : 0; }",
+    "int gordzila_walked_back(uint32_t answer) { return answer >= 2000; }",
+];
+
+/// What the first three readers say: whether a grant opens, its right and contractor.
+fn read_check(answer: u32) -> (bool, u32, u32) {
+    let opens = answer >= 1000;
+    (opens, answer / 1000, if opens { answer % 1000 } else { 0 })
+}
+
+/// What the others say: whether a holder walked, how many steps, and whether back.
+fn read_walk(answer: u32) -> (bool, u32, bool) {
+    let walked = answer >= 1000;
+    let steps = if walked { answer % 1000 } else { 0 };
+    (walked, steps, answer >= 2000)
+}
+
+#[test]
+fn the_readers_are_those_of_the_header() {
+    let header = repository_file("include/gordzila.h");
+    let readers = header
+        .lines()
+        .filter_map(|line| line.strip_prefix("static inline "));
+    assert_eq!(readers.collect::<Vec<_>>(), READERS);
+}
+
+#[test]
+fn a_check_says_what_the_readers_say() {
+    for contractor in [1, 7, 200] {
+        let mut roll = Roll::empty();
+        roll.enter(contractor).unwrap();
+        for right in [Right::Reading, Right::Overwriting] {
+            let grant = gordzila::issue(&[1; 12], 10, &roll, contractor, 300, right).unwrap();
+            for (block, asked) in [(300, 1), (300, 2), (301, 1), (300, 3)] {
+                let (key, roll) = (&[1; 12], roll.bytes());
+                let answer = raw::check_number(key, 10, roll, &grant, block, asked);
+                let said = match raw::check(key, 10, roll, &grant, block, asked) {
+                    Ok(Opened { contractor, right }) => (true, right.number(), contractor),
+                    Err(_) => (false, 0, 0),
+                };
+                assert_eq!(said, read_check(answer));
+            }
+        }
+    }
+}
+
+#[test]
+fn a_walk_says_what_the_readers_say() {
+    for length in [12, 18, 24] {
+        let mut holder = KeyHolder::new(&vec![1; length]).unwrap();
+        for _ in 0..length {
+            for to in 0..=length as u32 {
+                let bytes = *holder.as_bytes();
+                let answer = raw::holder_walk_number(&mut bytes.clone(), to);
+                let said = match raw::holder_walk(&mut bytes.clone(), to) {
+                    Ok(Walked { steps, way }) => (true, steps, way == Way::Back),
+                    Err(_) => (false, 0, false),
+                };
+                assert_eq!(said, read_walk(answer));
+            }
+            holder.forward();
+        }
+    }
+}
