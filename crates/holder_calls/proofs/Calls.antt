@@ -36,7 +36,8 @@ make-writes key out n x en ex z =
     (ap whole (ex ∙ sym e) ∙ whole-at key (p .0) 0 (omega (arith, t .sized .least)), leb-true _ _ (p .1 .0))
 
 -- ---- steps
-pub step-writes : (lent : List ℕ) (way : Way) (n : ℕ) (x : Holder) → n ≡ holderNumber (holderOf lent) → x ≡ stepHolder way (holderOf lent) → n ≡ 0 → Writable x lent
+pub step-writes : (lent : List ℕ) (way : Way) (n : ℕ) (x : Holder) → n ≡ holderNumber (holderOf lent)
+    → x ≡ stepHolder way (holderOf lent) → n ≡ 0 → Writable x lent
 unfolding stepHolder
 step-writes lent way n x en ex z =
     let h = holderOf lent in
