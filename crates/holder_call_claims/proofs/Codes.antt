@@ -1,5 +1,5 @@
 -- A walk's number tells its answer.
-use mathlib.Core.Path.{_≡_, refl, sym, ap, _∙_}
+use mathlib.Core.Path.{_≡_, refl, sym, _∙_}
 use Prim.Native.Nat.{ℕ, zero, suc, _+_, _≤_, _<_}
 use native.Mathlib.Omega.{arith}
 use Rattle.refusal.specs.Tries.{answered}
@@ -7,7 +7,7 @@ use Rattle.refusal.proofs.Ladder.{first-small}
 use Rattle.holder.specs.declared.Holder.{Holder}
 use Rattle.holder.specs.declared.Way.{Way}
 use Rattle.holder.specs.declared.Way.the-variants.{Forward, Back}
-use Rattle.holder_walk.specs.Walk.{walkTries, walkNumber, walkSteps, walkWay}
+use Rattle.holder_walk.specs.Walk.{walkTries, walkNumber}
 use Rattle.holder_walk.proofs.Walks.{walk-few, walk-refused}
 use Rattle.holder_walk_call.specs.WalkCall.{wayCode, walkCode}
 use Rattle.holder_walk_call.proofs.Walks.{code-refused}

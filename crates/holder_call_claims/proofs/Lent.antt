@@ -1,24 +1,24 @@
 -- C calls on any lent bytes: refused, they leave every byte.
 use mathlib.Core.Path.{_≡_, refl, sym, ap, _∙_}
-use mathlib.Core.Bool.{true, false}
-use mathlib.Core.List.{List, [], _∷_}
-use Prim.Native.Nat.{ℕ, zero, suc, _+_, _<_}
+use mathlib.Core.Bool.{false}
+use mathlib.Core.List.{List, []}
+use Prim.Native.Nat.{ℕ, zero, suc, _<_}
 use native.Mathlib.Omega.{arith}
 use lib.ListN.{length}
-use Rattle.refusal.specs.Tries.{first, written, answered}
+use Rattle.refusal.specs.Tries.{written, answered}
 use Rattle.refusal.proofs.Tries.{first-holds}
 use Rattle.refusal.proofs.Answers.{kept, put-all}
 use Rattle.holder.specs.declared.Holder.{Holder}
 use Rattle.holder.specs.declared.Way.{Way}
 use Rattle.holder.specs.declared.Way.the-variants.{Forward, Back}
-use Rattle.holder.specs.Holder.{whole, blank}
+use Rattle.holder.specs.Holder.{whole}
 use Rattle.holder_from_key.specs.FromKey.{madeHolder}
 use Rattle.holder_steps.specs.Steps.{holderNumber, stepHolder, subkeyHeld}
 use Rattle.holder_walk.specs.Walk.{walkNumber, walkHolder, walkSteps, walkWay}
 use Rattle.holder_bytes.specs.HolderBytes.{holderLength, holderOf, holderBytes}
 use Rattle.holder_bytes.proofs.Lent.{length-bytes, read-other, blank-broken}
 use Rattle.holder_calls.specs.HolderCalls.{makeCallOutput, stepCallHolder}
-use Rattle.holder_walk_call.specs.WalkCall.{wayCode, walkCode, walkCallCode, walkCallHolder}
+use Rattle.holder_walk_call.specs.WalkCall.{walkCode, walkCallCode, walkCallHolder}
 use Rattle.holder_subkey_call.specs.SubkeyCall.{heldSubkeyOutput}
 use Rattle.holder_call_claims.specs.HolderRoutes.{HolderCall, make, forward, back, walk, subkey, leaves}
 use Rattle.holder_call_claims.specs.Claims.{LentRefused, outputLent}

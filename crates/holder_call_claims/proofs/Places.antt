@@ -1,18 +1,16 @@
 -- C calls on the bytes of a key's holder at a place: each answers what it has to and leaves the bytes of the place after it.
 use mathlib.Core.Path.{_≡_, refl, sym, ap, ap₂, _∙_}
-use mathlib.Core.Logic.{inl, inr}
-use mathlib.Core.Bool.{Bool, true, false, cond}
+use mathlib.Core.Bool.{true, cond}
 use mathlib.Core.List.{List, [], _∷_}
-use Prim.Native.Nat.{ℕ, zero, suc, _+_, _*_, _≤_, _<_}
+use Prim.Native.Nat.{ℕ, zero, suc, _+_, _≤_, _<_}
 use native.Mathlib.Omega.{arith}
-use lib.Dec.{ltb, leb}
+use lib.Dec.{leb}
 use lib.ListN.{length, drop}
-use borrow.Author.Tests.{lt-ltb, le-ltb, le-leb}
+use borrow.Author.Tests.{lt-ltb, le-leb}
 use Rattle.basics.specs.Bytes.{AreBytes}
 use Rattle.basics.specs.Repeated.{repeated}
-use Rattle.basics.proofs.Tests.{below-or-not}
 use Rattle.refusal.specs.Tries.{_unless_, first, written, answered}
-use Rattle.refusal.proofs.Tries.{first-passes, first-holds, none-given}
+use Rattle.refusal.proofs.Tries.{first-passes, none-given}
 use Rattle.refusal.proofs.Answers.{kept, put-all}
 use Rattle.block_bytes.specs.Blocks.{bytesOf}
 use Rattle.sizes.specs.Sizes.{keyLength, tOf, turn}
@@ -25,7 +23,6 @@ use Rattle.holder.specs.declared.Holder.{Holder}
 use Rattle.holder.specs.declared.Way.{Way}
 use Rattle.holder.specs.Holder.{tHeld, whole, holderAt}
 use Rattle.holder.proofs.Whole.{whole-at}
-use Rattle.holder_from_key.specs.FromKey.{madeHolder}
 use Rattle.holder_steps.specs.Steps.{holderNumber, stepHolder, subkeyHeld}
 use Rattle.holder_walk.specs.Walk.{ringDistance, wayTo, walkNumber, walkHolder, walkSteps, walkWay}
 use Rattle.routes.proofs.Ring.{numberTo, numbers-below, full-turn}

@@ -12,13 +12,13 @@ use Rattle.basics.proofs.Tests.{below-or-not}
 use Rattle.refusal.specs.Tries.{written}
 use Rattle.refusal.proofs.Tries.{first-holds}
 use Rattle.refusal.proofs.Answers.{kept}
-use Rattle.sizes.specs.Sizes.{keyLength, tOf, turn}
+use Rattle.sizes.specs.Sizes.{keyLength, turn}
 use Rattle.sizes.proofs.Keys.{a-key}
 use Rattle.cycle.proofs.Addends.{following-below, preceding-below}
 use Rattle.holder.specs.declared.Holder.{Holder}
 use Rattle.holder.specs.declared.Way.{Way}
 use Rattle.holder.specs.declared.Way.the-variants.{Forward, Back}
-use Rattle.holder.specs.Holder.{whole, holderAt}
+use Rattle.holder.specs.Holder.{whole}
 use Rattle.holder.proofs.Whole.{a-whole}
 use Rattle.holder_from_key.specs.FromKey.{madeHolder}
 use Rattle.holder_walk.specs.Walk.{ringDistance, wayTo}

@@ -1,8 +1,8 @@
 -- `holder_bytes::answer` meets its contract.
 use mathlib.Core.Path.{sym, ap, _∙_}
-use mathlib.Core.List.{List, _++_}
+use mathlib.Core.List.{_++_}
 use Prim.Native.Nat.{ℕ}
-use lib.ListN.{length, drop}
+use lib.ListN.{drop}
 use denote.Ref.{now}
 use Rattle.refusal.proofs.Ladder.{positive-refused, zero-done}
 use Rattle.refusal.proofs.Answers.{kept, put}

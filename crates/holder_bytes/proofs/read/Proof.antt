@@ -1,9 +1,8 @@
 -- `holder_bytes::read` meets its contract.
-use mathlib.Core.Path.{_≡_, sym, ap, _∙_}
-use mathlib.Core.List.{List}
+use mathlib.Core.Path.{_≡_, sym, _∙_}
 use native.Mathlib.Omega.{arith}
 use denote.Ref.{now}
-use lib.ListN.{length, getD, drop, length-drop}
+use lib.ListN.{length, getD}
 use Rattle.holder_bytes.specs.HolderBytes.{holderLength}
 use Rattle.holder_bytes.proofs.Lent.{read-long, read-other, stage-fits, stage-read}
 use borrow.Author.Needs.{needs}

@@ -2,7 +2,6 @@
 use mathlib.Core.Path.{_≡_, ap, _∙_}
 use denote.Ref.{now}
 use Rattle.refusal.specs.Reasons.{outcomeNumber}
-use Rattle.holder.specs.declared.Holder.{Holder}
 use Rattle.holder_steps.specs.Steps.{holderNumber, stepHolder}
 use Rattle.holder_bytes.specs.HolderBytes.{holderOf}
 use Rattle.holder_bytes.proofs.Lent.{told}

@@ -1,11 +1,9 @@
 -- `holder_walk_call::walk` meets its contract.
-use mathlib.Core.Path.{_≡_, ap, ap₂, _∙_}
-use Prim.Native.Nat.{ℕ, _*_, _≤_}
+use mathlib.Core.Path.{_≡_, ap, _∙_}
 use native.Mathlib.Omega.{arith}
 use denote.Ref.{now}
 use Rattle.refusal.specs.Reasons.{outcomeNumber}
 use Rattle.holder.specs.declared.Holder.{Holder}
-use Rattle.holder.specs.declared.Way.{Way}
 use Rattle.holder_walk.specs.Walk.{walkNumber, walkHolder, walkSteps, walkWay}
 use Rattle.holder_walk.proofs.Walks.{walk-few}
 use Rattle.holder_bytes.specs.HolderBytes.{holderOf}
