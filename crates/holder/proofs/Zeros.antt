@@ -44,7 +44,7 @@ padded-zeros k n e =
     ∙ ap allZero (drop-at k (replicate (24 - n) 0) n e)
     ∙ zeros (24 - n)
 
-zeros-are : (l : List ℕ) → allZero l ≡ true → l ≡ replicate (length l) 0
+pub zeros-are : (l : List ℕ) → allZero l ≡ true → l ≡ replicate (length l) 0
 unfolding allZero
 zeros-are [] e = refl
 zeros-are (b ∷ bs) e = λ i. eqb-true b 0 (and-first (eqb b 0) (allZero bs) e) i ∷ zeros-are bs (and-second (eqb b 0) (allZero bs) e) i

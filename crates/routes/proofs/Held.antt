@@ -1,14 +1,12 @@
 -- Every whole holder is a key's at its number, so what holds at the places of a key holds of every whole holder.
-use mathlib.Core.Path.{_≡_, refl, sym, ap, ap₂, _∙_, subst}
+use mathlib.Core.Path.{_≡_, refl, sym, ap, _∙_, subst}
 use mathlib.Core.Bool.{true}
 use mathlib.Core.List.{List, [], _∷_, _++_}
 use Prim.Native.Nat.{ℕ, zero, suc, _-_, _*_, _<_}
 use native.Mathlib.Omega.{arith}
-use lib.Dec.{eqb, lit<}
+use lib.Dec.{lit<}
 use lib.ListN.{length, take, drop, replicate, length-drop, take-append-drop}
 use lib.Seq.{length-take-le}
-use borrow.Author.Tests.{eqb-true}
-use Rattle.basics.proofs.Tests.{and-first, and-second}
 use Rattle.refusal.proofs.Tries.{first-passes, none-given}
 use Rattle.refusal.proofs.Answers.{answer-done}
 use Rattle.basics.specs.Bytes.{AreBytes}
@@ -22,20 +20,15 @@ use Rattle.basics.specs.Repeated.{repeated}
 use Rattle.cycle.proofs.Around.{of-key}
 use Rattle.holder.specs.declared.Holder.{Holder}
 use Rattle.holder.specs.declared.Way.{Way}
-use Rattle.holder.specs.Holder.{tHeld, allZero, whole, holderAt, stepped}
+use Rattle.holder.specs.Holder.{tHeld, whole, holderAt, stepped}
 use Rattle.holder_steps.specs.Steps.{holderTries, holderNumber, stepHolder}
 use Rattle.holder.proofs.Whole.{a-whole, turn-held, steps-whole, whole-at}
+use Rattle.holder.proofs.Zeros.{zeros-are}
 use Rattle.routes.specs.Claims.{ComesHome}
 use Rattle.routes.proofs.Ring.{full-turn}
 use Rattle.routes.proofs.At.{steps-at}
 
 -- ---- a whole holder's bytes are its stage's, and zeros
-all-zero : (bs : List ℕ) → allZero bs ≡ true → bs ≡ replicate (length bs) 0
-unfolding allZero
-all-zero [] e = refl
-all-zero (b ∷ bs) e =
-    ap₂ {C = List ℕ} (λ x xs. x ∷ xs) (eqb-true b 0 (and-first (eqb b 0) (allZero bs) e)) (all-zero bs (and-second (eqb b 0) (allZero bs) e))
-
 take-bytes : (n : ℕ) (bs : List ℕ) → AreBytes bs → AreBytes (take n bs)
 take-bytes zero bs h i = lit< tt
 take-bytes (suc n) [] h i = lit< tt
@@ -64,7 +57,7 @@ module _ (h : Holder) (bytes : AreBytes (h .bytes)) (all : length (h .bytes) ≡
       let n = h .length in
       let e : length (drop n (h .bytes)) ≡ 24 - length (take n (h .bytes)) = length-drop n (h .bytes) ∙ omega (arith, held-length) in
       sym (take-append-drop n (h .bytes))
-      ∙ ap (λ (x : List ℕ). take n (h .bytes) ++ x) (all-zero (drop n (h .bytes)) (a-whole h w .zeros) ∙ ap (λ (m : ℕ). replicate m 0) e)
+      ∙ ap (λ (x : List ℕ). take n (h .bytes) ++ x) (zeros-are (drop n (h .bytes)) (a-whole h w .zeros) ∙ ap (λ (m : ℕ). replicate m 0) e)
 
   held-stage : IsStage (2 * tHeld h) held
   unfolding held
