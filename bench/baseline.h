@@ -2,7 +2,8 @@
  * The calls of a C baseline of the benchmark. They take the same arguments and
  * give the same answers as those of the proved library: 0, or the number of the
  * reason for which a call refuses; a check that opens gives 1,000 times the
- * right plus the contractor. A call that refuses leaves the output as it was.
+ * right asked for plus the contractor. A call that refuses leaves the output as
+ * it was.
  *
  * Each C file is compiled once for every compiler and set of flags, and gives
  * out one struct baseline, under the name that -DBASELINE=... chooses.
@@ -39,6 +40,8 @@ enum answer {
     NOT_IN_STANDING = 20,
     OTHER_COUNT = 23
 };
+
+enum right { READING = 1, OVERWRITING = 2 };
 
 enum direction { ENCIPHERING, DECIPHERING };
 

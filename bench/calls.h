@@ -53,7 +53,7 @@ static bool is_list_length(size_t n)
 
 static bool is_right(uint32_t right)
 {
-    return right == 1 || right == 2;
+    return right == READING || right == OVERWRITING;
 }
 
 /* The calls of the cipher. */
@@ -137,7 +137,8 @@ static uint32_t run(const uint8_t *list, size_t list_len,
 /*
  * The check of a grant. Its plain bytes, each number big end first: 2 for the
  * contractor, 2 for the count, 4 for the size block, 1 for the right, 3 for the
- * mark. The roll has two bytes for each contractor from 1 on.
+ * mark. The roll has two bytes for each contractor from 1 on. A grant for
+ * overwriting opens for reading too; the answer has the right asked for.
  */
 
 static uint32_t number(const uint8_t *bytes, int length)
@@ -165,7 +166,7 @@ static uint32_t check_plain(const uint8_t plain[BLOCK], const uint8_t *roll,
         return NOT_A_GRANT;
     if (number(plain + 4, 4) != size_block)
         return OTHER_BLOCK;
-    if (plain[8] != right)
+    if (plain[8] == READING && right == OVERWRITING)
         return OTHER_RIGHT;
     count = number(roll + 2 * (contractor - 1), 2);
     if (!is_in_standing(count))

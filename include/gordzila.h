@@ -21,6 +21,13 @@
  *    them lent: rooms or threads that share a roll make their calls on it one after the other.
  *  - Their time depends on the key and the data: they are not made to resist an observer of time.
  *
+ * Changes in 0.3.0, for hosts that were written for 0.2:
+ *  - An overwriting grant also opens its size block for reading, whenever it was issued. A host that took 10 as the answer where an
+ *    overwriting grant is asked for reading now gets 1001 to 1200 there, or 20 or 23 where these hold. 10 is left for overwriting
+ *    asked of a reading grant.
+ *  - A box that kept two grants for one size block, one for each right, needs only the overwriting one.
+ *  - No call changed its form, and no constant its name or number.
+ *
  * The header is for C99 or newer and for C++.
  */
 #ifndef GORDZILA_H
@@ -45,7 +52,7 @@ enum {
     GORDZILA_RIGHT = 7,            /* right neither 1 nor 2 */
     GORDZILA_NOT_A_GRANT = 8,      /* the deciphered bytes have a wrong mark, contractor or right */
     GORDZILA_OTHER_BLOCK = 9,      /* grant for another size block */
-    GORDZILA_OTHER_RIGHT = 10,     /* grant for another right */
+    GORDZILA_OTHER_RIGHT = 10,     /* overwriting asked of a reading grant */
     /* found in the state */
     GORDZILA_NOT_IN_STANDING = 20, /* contractor not in standing */
     GORDZILA_IN_STANDING = 21,     /* entering someone in standing */
@@ -54,7 +61,10 @@ enum {
     GORDZILA_BROKEN_HOLDER = 24    /* holder not 26 bytes, or not whole: a wrong key length, a stage number that is not below it, or bytes past it */
 };
 
-/* Rights. */
+/*
+ * Rights, as they stand in a grant and as they are asked for. A reading grant opens its size block for reading and not for
+ * overwriting; an overwriting grant opens it for both.
+ */
 enum { GORDZILA_READING = 1, GORDZILA_OVERWRITING = 2 };
 
 /* Lengths in bytes. */
@@ -63,18 +73,20 @@ enum { GORDZILA_STAGE_BYTES = 24, GORDZILA_SUBKEY_BYTES = 12, GORDZILA_LONGEST_L
 enum { GORDZILA_HOLDER_BYTES = 26 };
 
 /*
- * Checks a grant for one size block and one right.
+ * Checks a grant for one size block and one right. A reading grant opens its size block where reading is asked for, an
+ * overwriting grant where reading or overwriting is.
  *
  * roll: 400 bytes, the counts of contractors 1 to 200, two bytes each, big end first.
  *
  * Returns the number of the first of these reasons that holds: 1, 2, 3 (grant or roll), 7, 8, 9, 10, 20, 23. Otherwise the
- * grant opens the size block, and the answer is 1,000 times the right plus the contractor: 1001 to 1200 for reading, 2001 to
- * 2200 for overwriting.
+ * grant opens the size block, and the answer is 1,000 times the right asked for plus the contractor: 1001 to 1200 for reading,
+ * 2001 to 2200 for overwriting. The right in the answer is the one asked for, and not the grant's: an overwriting grant that is
+ * asked for reading answers 1001 to 1200.
  */
 uint32_t gordzila_check(const uint8_t *key, size_t key_length, uint32_t rounds, const uint8_t *roll, size_t roll_length,
                         const uint8_t *grant, size_t grant_length, uint32_t size_block, uint32_t right);
 
-/* Of an answer of gordzila_check: whether the grant opens, and if so the right and the contractor; 0 where it does not open. */
+/* Of an answer of gordzila_check: whether the grant opens, and if so the right asked for and the contractor; 0 where it does not. */
 static inline int gordzila_opens(uint32_t answer) { return answer >= 1000; }
 static inline uint32_t gordzila_answered_right(uint32_t answer) { return answer / 1000; }
 static inline uint32_t gordzila_answered_contractor(uint32_t answer) { return gordzila_opens(answer) ? answer % 1000 : 0; }
@@ -90,8 +102,9 @@ uint32_t gordzila_enter(uint8_t *roll, size_t roll_length, uint32_t contractor);
 uint32_t gordzila_withdraw(uint8_t *roll, size_t roll_length, uint32_t contractor);
 
 /*
- * Issues a grant to a contractor in the standing that the roll has for them: 12 bytes to out. Returns 0, or the number of the first
- * reason that holds. Order: 1, 2, 3 (roll), 4, 6, 7, 20.
+ * Issues a grant to a contractor in the standing that the roll has for them: 12 bytes to out. A grant for overwriting also opens its
+ * size block for reading, so that nobody needs one of each. Returns 0, or the number of the first reason that holds. Order: 1, 2,
+ * 3 (roll), 4, 6, 7, 20.
  */
 uint32_t gordzila_issue(const uint8_t *key, size_t key_length, uint32_t rounds, const uint8_t *roll, size_t roll_length,
                         uint32_t contractor, uint32_t size_block, uint32_t right, uint8_t *out, size_t out_length);

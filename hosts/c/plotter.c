@@ -1,7 +1,8 @@
 /*
- * A plotter's morning, in small. The store enters a contractor and issues a grant; a plotter box caches it and checks it against the
- * roll as it is now before each overwriting; the contractor is withdrawn, and the cached grant stops opening, also after a new standing.
- * Prints a line for each step.
+ * A plotter's morning, in small. The store enters a contractor and issues an overwriting grant; a plotter box caches it and checks it
+ * against the roll as it is now: before it looks at the size block, and before it overwrites it. The contractor is withdrawn, and the
+ * cached grant stops opening, also after a new standing. With a reading grant the contractor may then look, but not overwrite. Prints a
+ * line for each step.
  */
 #include <stdio.h>
 #include <string.h>
@@ -19,7 +20,7 @@ static const char *reason(uint32_t number) {
     case GORDZILA_OTHER_BLOCK:
         return "grant for another size block";
     case GORDZILA_OTHER_RIGHT:
-        return "grant for another right";
+        return "overwriting asked of a reading grant";
     case GORDZILA_NOT_IN_STANDING:
         return "contractor not in standing";
     case GORDZILA_IN_STANDING:
@@ -42,16 +43,18 @@ static void done(const char *what, uint32_t number) {
     }
 }
 
-/* The plotter's question: may this size block be overwritten? */
-static void may_overwrite(const uint8_t roll[GORDZILA_ROLL_BYTES], const uint8_t grant[GORDZILA_GRANT_BYTES],
-                          uint32_t size_block) {
+static const char *verb(uint32_t right) { return right == GORDZILA_READING ? "read" : "overwrite"; }
+
+/* The plotter's question: may this size block be read, or overwritten? Where the grant opens, the answer has the right asked for. */
+static void may(uint32_t right, const uint8_t roll[GORDZILA_ROLL_BYTES], const uint8_t grant[GORDZILA_GRANT_BYTES],
+                uint32_t size_block) {
     uint32_t answer = gordzila_check(key, sizeof key, rounds, roll, GORDZILA_ROLL_BYTES, grant, GORDZILA_GRANT_BYTES,
-                                     size_block, GORDZILA_OVERWRITING);
+                                     size_block, right);
     if (gordzila_opens(answer)) {
-        printf("overwrite size block %u: opens for contractor %u\n", (unsigned)size_block,
+        printf("%s size block %u: opens for contractor %u\n", verb(gordzila_answered_right(answer)), (unsigned)size_block,
                (unsigned)gordzila_answered_contractor(answer));
     } else {
-        printf("overwrite size block %u: refused with %u, %s\n", (unsigned)size_block, (unsigned)answer, reason(answer));
+        printf("%s size block %u: refused with %u, %s\n", verb(right), (unsigned)size_block, (unsigned)answer, reason(answer));
     }
 }
 
@@ -61,16 +64,22 @@ int main(void) {
     memset(roll, 0, sizeof roll);
     memset(grant, 0, sizeof grant);
 
-    done("issue to contractor 7",
+    done("issue an overwriting grant to contractor 7",
          gordzila_issue(key, sizeof key, rounds, roll, sizeof roll, 7, 300, GORDZILA_OVERWRITING, grant, sizeof grant));
     done("enter contractor 7", gordzila_enter(roll, sizeof roll, 7));
-    done("issue to contractor 7",
+    done("issue an overwriting grant to contractor 7",
          gordzila_issue(key, sizeof key, rounds, roll, sizeof roll, 7, 300, GORDZILA_OVERWRITING, grant, sizeof grant));
-    may_overwrite(roll, grant, 300);
-    may_overwrite(roll, grant, 301);
+    may(GORDZILA_READING, roll, grant, 300);
+    may(GORDZILA_OVERWRITING, roll, grant, 300);
+    may(GORDZILA_OVERWRITING, roll, grant, 301);
     done("withdraw contractor 7", gordzila_withdraw(roll, sizeof roll, 7));
-    may_overwrite(roll, grant, 300);
+    may(GORDZILA_READING, roll, grant, 300);
+    may(GORDZILA_OVERWRITING, roll, grant, 300);
     done("enter contractor 7", gordzila_enter(roll, sizeof roll, 7));
-    may_overwrite(roll, grant, 300);
+    may(GORDZILA_OVERWRITING, roll, grant, 300);
+    done("issue a reading grant to contractor 7",
+         gordzila_issue(key, sizeof key, rounds, roll, sizeof roll, 7, 300, GORDZILA_READING, grant, sizeof grant));
+    may(GORDZILA_READING, roll, grant, 300);
+    may(GORDZILA_OVERWRITING, roll, grant, 300);
     return 0;
 }

@@ -16,6 +16,11 @@
 //! - `list KEY R LIST`, `turned KEY R TURNED`: the subkeys 0 to R, and the
 //!   decryption keys of Theorem 1.
 //! - `plain CONTRACTOR COUNT BLOCK RIGHT BYTES`: the plain bytes of a grant.
+//! - `covers GRANTED ASKED YES`: 1 or 0, whether a grant with the right GRANTED may be
+//!   used for the right ASKED, for all of 0 to 3, ASKED being the faster one.
+//! - `judged PLAIN COUNT BLOCK RIGHT NUMBER CONTRACTOR ANSWERED`: what a check says of
+//!   a grant with the plain bytes PLAIN, asked for a size block and a right, where the
+//!   roll has COUNT for the contractor in PLAIN.
 //! - `walk L FROM TO STEPS WAY`: what a walk of a holder of a key of L bytes reports.
 //! - `lent KEY s BYTES`: the 26 bytes of a lent holder of a key at stage s, for s = 0,
 //!   1 and 6t - 1.
@@ -39,17 +44,20 @@
 //! The reasons 6 and 20 of withdraw do hold together: a contractor without a count
 //! is not in standing.
 //!
+//! The grants of `judged` are all for contractor 7, with count 1 and size block 300.
+//!
 //! The whole holders of `broken` stand last; they are at stage 6t - 1. The bytes of
 //! the lines before come from these by a single change each, but for those without
 //! any byte.
 
 use crate::cipher::{allowed_rounds, decryption_keys, encrypt, state_of};
 use crate::error::Error;
-use crate::grants::number_of;
+use crate::grants::{answer_of, number_of};
 use crate::holder::{forward, holder_bytes, walk_to};
 use crate::matrix::Matrix;
 use crate::roll::{
-    counts_from_bytes, counts_to_bytes, in_standing, Grant, Roll, CONTRACTORS, OVERWRITING, READING,
+    counts_from_bytes, counts_to_bytes, covers, in_standing, Grant, Roll, CONTRACTORS, OVERWRITING,
+    READING,
 };
 use crate::routes::walk;
 use crate::schedule::{cipher_key, key_stage, round_subkeys, select};
@@ -91,6 +99,21 @@ const GRANTS: [Grant; 2] = [
         block: 300,
         right: OVERWRITING,
     },
+];
+
+/// The checks that are judged: the right in the grant, the contractor's count in the
+/// roll, and the size block and the right that are asked for. Rights 0 and 3 are none.
+const JUDGED: [(u8, u16, u32, u8); 10] = [
+    (OVERWRITING, 1, 300, READING),
+    (OVERWRITING, 1, 300, OVERWRITING),
+    (READING, 1, 300, READING),
+    (READING, 1, 300, OVERWRITING),
+    (OVERWRITING, 1, 301, READING),
+    (OVERWRITING, 2, 300, READING),
+    (OVERWRITING, 3, 300, READING),
+    (3, 1, 300, READING),
+    (3, 1, 300, OVERWRITING),
+    (0, 1, 300, READING),
 ];
 
 /// The walks: the key length, and the places from which and to which they go.
@@ -152,6 +175,8 @@ pub fn answers_text() -> Result<String, Error> {
     add_closing_line::<8>(&mut text);
     add_list_lines(&mut text)?;
     add_plain_lines(&mut text);
+    add_covers_lines(&mut text);
+    add_judged_lines(&mut text);
     add_walk_lines(&mut text);
     add_lent_lines(&mut text)?;
     add_walked_lines(&mut text)?;
@@ -247,6 +272,58 @@ fn add_plain_lines(text: &mut String) {
             ],
         );
     }
+}
+
+/// The lines for rights in a grant and rights asked for, 0 and 3 being none.
+fn add_covers_lines(text: &mut String) {
+    for granted in 0..=3 {
+        for asked in 0..=3 {
+            let yes = if covers(granted, asked) { "1" } else { "0" };
+            let [granted, asked] = [granted, asked].map(|right: u8| right.to_string());
+            add_line(text, &["covers", &granted, &asked, yes]);
+        }
+    }
+}
+
+/// The lines for checks, with the contractor and the size block of a call in which
+/// nothing is wrong, and count 1 in the grant.
+fn add_judged_lines(text: &mut String) {
+    for (granted, count, block, asked) in JUDGED {
+        let grant = Grant {
+            contractor: CONTRACTOR,
+            count: 1,
+            block: SIZE_BLOCK,
+            right: granted,
+        };
+        let plain = grant.plain_bytes();
+        add_line(
+            text,
+            &[
+                "judged",
+                &hex(&plain),
+                &count.to_string(),
+                &block.to_string(),
+                &asked.to_string(),
+                &judgement(&plain, count, block, asked),
+            ],
+        );
+    }
+}
+
+/// The fields for the answer to a check of a grant that deciphers to these bytes. In
+/// the roll the contractor has the given count, and everyone else has zero.
+fn judgement(plain: &[u8], count: u16, block: u32, right: u8) -> String {
+    let mut counts = [0; CONTRACTORS];
+    counts[usize::from(CONTRACTOR) - 1] = count;
+    let roll = Roll::with_counts(counts);
+    let grant = enciphered(plain);
+    answer_of(&roll.check(&KEY[..SHORT], ROUNDS, &grant, block, right))
+}
+
+/// Plain bytes enciphered under the short key.
+fn enciphered(plain: &[u8]) -> Vec<u8> {
+    let bytes = encrypt(&KEY[..SHORT], ROUNDS, plain);
+    bytes.expect("the key, the rounds and the block are allowed")
 }
 
 /// The lines for walks, none of which is refused.
@@ -413,12 +490,18 @@ fn contractor_with(reasons: &[u8]) -> u16 {
     }
 }
 
-/// The right that is asked for: for reason 7 none, and for reason 10 not the one in
-/// the grant.
+/// The right that is asked for: overwriting, and for reason 7 none.
 fn right_with(reasons: &[u8]) -> u8 {
     if reasons.contains(&7) {
         3
-    } else if reasons.contains(&10) {
+    } else {
+        OVERWRITING
+    }
+}
+
+/// The right in the grant of a check: for reason 10 only reading.
+fn granted_with(reasons: &[u8]) -> u8 {
+    if reasons.contains(&10) {
         READING
     } else {
         OVERWRITING
@@ -441,8 +524,8 @@ fn count_with(reasons: &[u8]) -> u16 {
 }
 
 /// The enciphered grant of a check. For reason 3 its last byte is missing, for
-/// reason 8 the last byte of the mark is wrong, and for reason 23 the count is that
-/// of an earlier time.
+/// reason 8 the last byte of the mark is wrong, for reason 10 it is a reading grant,
+/// and for reason 23 the count is that of an earlier time.
 fn grant_with(reasons: &[u8]) -> Vec<u8> {
     let grant = Grant {
         contractor: CONTRACTOR,
@@ -452,14 +535,13 @@ fn grant_with(reasons: &[u8]) -> Vec<u8> {
             count_with(reasons)
         },
         block: SIZE_BLOCK,
-        right: OVERWRITING,
+        right: granted_with(reasons),
     };
     let mut plain = grant.plain_bytes();
     if reasons.contains(&8) {
         plain[11] += 1;
     }
-    let enciphered = encrypt(&KEY[..SHORT], ROUNDS, &plain);
-    let mut bytes = enciphered.expect("the key, the rounds and the block are allowed");
+    let mut bytes = enciphered(&plain);
     if reasons.contains(&3) {
         bytes.pop();
     }

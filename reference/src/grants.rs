@@ -12,7 +12,7 @@
 //!
 //! - an issue before the contractor is entered; enter; an issue, which gives grant
 //!   A; grant A checked for its block and right, for the next block, and for the
-//!   other right;
+//!   other right, which is accepted if that is reading;
 //! - enter again; withdraw; grant A checked; withdraw again;
 //! - enter; grant A checked; an issue, which gives grant B; grant B checked; grant
 //!   A checked;
@@ -181,19 +181,22 @@ impl<'a> Log<'a> {
         add_line(&mut self.text, &["damaged", &position.to_string(), &fields]);
     }
 
-    /// The last three fields of the line for a check: its number, and the
-    /// contractor and the right if it is not refused, and otherwise 0 and 0.
+    /// The last three fields of the line for a check of a grant.
     fn answer(&self, grant: &[u8], block: u32, right: u8) -> String {
-        let checked = self
-            .roll
-            .check(&self.life.key, self.life.rounds, grant, block, right);
-        let number = number_of(&checked);
-        let accepted = checked.unwrap_or(Accepted {
-            contractor: 0,
-            right: 0,
-        });
-        format!("{} {} {}", number, accepted.contractor, accepted.right)
+        let life = self.life;
+        let checked = self.roll.check(&life.key, life.rounds, grant, block, right);
+        answer_of(&checked)
     }
+}
+
+/// The fields for the answer to a check: its number, and the contractor and the
+/// right asked for if it is not refused, and otherwise 0 and 0.
+pub(crate) fn answer_of(checked: &Result<Accepted, Refusal>) -> String {
+    let (contractor, right) = match checked {
+        Ok(accepted) => (accepted.contractor, accepted.right),
+        Err(_) => (0, 0),
+    };
+    format!("{} {} {}", number_of(checked), contractor, right)
 }
 
 /// The field for the number of a call: 0, or the number of the reason for which it

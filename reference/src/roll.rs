@@ -10,8 +10,11 @@
 //! - enter: adds 1 to a contractor's count; 6, 21, 22.
 //! - withdraw: adds 1 to a contractor's count; 6, 20.
 //! - issue: answers a grant with the contractor's count; 1, 2, 4, 6, 7, 20.
-//! - check: answers the contractor and the right of a grant, asked for one size
-//!   block and one right; 1, 2, 3, 7, 8, 9, 10, 20, 23.
+//! - check: answers the contractor in a grant and the right asked for, asked for one
+//!   size block and one right; 1, 2, 3, 7, 8, 9, 10, 20, 23.
+//!
+//! An overwriting grant opens its size block for reading too. A reading grant does
+//! not overwrite; to ask that of it is reason 10.
 //!
 //! A grant is one block of 12 bytes: the plain bytes, enciphered under the key and
 //! the number of rounds. Number 4, for an output that is too short, does not occur:
@@ -57,8 +60,8 @@ pub enum Refusal {
     NoGrant = 8,
     /// The grant is for another size block.
     OtherBlock = 9,
-    /// The grant is for another right.
-    OtherRight = 10,
+    /// Overwriting is asked of a reading grant.
+    ReadingOnly = 10,
     /// The contractor is not in standing.
     NotInStanding = 20,
     /// The contractor to be entered is in standing.
@@ -200,8 +203,8 @@ impl Roll {
         Ok(enciphered.expect("the key, the rounds and the block are allowed"))
     }
 
-    /// Whether an enciphered grant gives the right asked for on the size block
-    /// asked for.
+    /// Whether an enciphered grant may be used for the right asked for on the size
+    /// block asked for.
     pub fn check(
         &self,
         key: &[u8],
@@ -221,13 +224,14 @@ impl Roll {
         self.check_grant(&grant, block, right)
     }
 
-    /// The part of a check that comes after deciphering.
+    /// The part of a check that comes after deciphering. Both rights, the one in the
+    /// grant and the one asked for, are reading or overwriting by now.
     fn check_grant(&self, grant: &Grant, block: u32, right: u8) -> Result<Accepted, Refusal> {
         if grant.block != block {
             return Err(Refusal::OtherBlock);
         }
-        if grant.right != right {
-            return Err(Refusal::OtherRight);
+        if !covers(grant.right, right) {
+            return Err(Refusal::ReadingOnly);
         }
         let count = self.count(grant.contractor)?;
         check_standing(count)?;
@@ -297,6 +301,17 @@ fn place_of(contractor: u16) -> Result<usize, Refusal> {
 /// Whether a byte is the number of a right.
 fn is_right(right: u8) -> bool {
     right == READING || right == OVERWRITING
+}
+
+/// Whether a grant with the right `granted` may be used for the right `asked`.
+/// Overwriting covers overwriting and reading, and reading covers reading. A number
+/// that is no right covers nothing and is covered by nothing.
+pub fn covers(granted: u8, asked: u8) -> bool {
+    match granted {
+        OVERWRITING => asked == OVERWRITING || asked == READING,
+        READING => asked == READING,
+        _ => false,
+    }
 }
 
 /// Refuses a byte that is not the number of a right.

@@ -82,6 +82,8 @@ fn the_lines_stand_in_the_documented_order() {
         ("list", 1),
         ("turned", 1),
         ("plain", 2),
+        ("covers", 16),
+        ("judged", 10),
         ("walk", 11),
         ("lent", 9),
         ("walked", 14),
@@ -93,7 +95,7 @@ fn the_lines_stand_in_the_documented_order() {
         .iter()
         .flat_map(|(name, count)| vec![Some(*name); *count]);
     assert!(names.eq(documented));
-    assert_eq!(text.lines().count(), 86);
+    assert_eq!(text.lines().count(), 112);
 }
 
 /// The lines that README.md prints.
@@ -336,6 +338,89 @@ fn the_plain_bytes_are_read_again() {
         );
         assert_eq!(line.join(" "), said);
     }
+}
+
+/// Right 1 is reading, right 2 is overwriting, and 0 and 3 are none. Overwriting
+/// covers both rights, reading covers itself, and there are no other cases.
+#[test]
+fn what_a_right_covers_is_as_written_by_hand() {
+    let written = [
+        "covers 0 0 0",
+        "covers 0 1 0",
+        "covers 0 2 0",
+        "covers 0 3 0",
+        "covers 1 0 0",
+        "covers 1 1 1",
+        "covers 1 2 0",
+        "covers 1 3 0",
+        "covers 2 0 0",
+        "covers 2 1 1",
+        "covers 2 2 1",
+        "covers 2 3 0",
+        "covers 3 0 0",
+        "covers 3 1 0",
+        "covers 3 2 0",
+        "covers 3 3 0",
+    ];
+    assert_eq!(lines_of("covers"), written);
+}
+
+/// Contractor 7, count 1 and size block 300, which is hex 12C, are in all grants.
+/// README.md prints these lines.
+#[test]
+fn the_judgements_are_as_written_by_hand() {
+    let written = [
+        "judged 000700010000012c02475244 1 300 1 0 7 1",
+        "judged 000700010000012c02475244 1 300 2 0 7 2",
+        "judged 000700010000012c01475244 1 300 1 0 7 1",
+        "judged 000700010000012c01475244 1 300 2 10 0 0",
+        "judged 000700010000012c02475244 1 301 1 9 0 0",
+        "judged 000700010000012c02475244 2 300 1 20 0 0",
+        "judged 000700010000012c02475244 3 300 1 23 0 0",
+        "judged 000700010000012c03475244 1 300 1 8 0 0",
+        "judged 000700010000012c03475244 1 300 2 8 0 0",
+        "judged 000700010000012c00475244 1 300 1 8 0 0",
+    ];
+    assert_eq!(lines_of("judged"), written);
+    let readme = include_str!("../README.md");
+    assert!(readme.contains(&format!("    {}\n", written.join("\n    "))));
+}
+
+/// A judgement does not hang on the key: the long key with the most rounds, and a
+/// roll in which everyone has the count, give the same fields.
+#[test]
+fn the_judgements_are_the_same_under_another_key() {
+    let key = bytes(KEYS[2]);
+    for line in fields_of("judged") {
+        let count = line[2].parse().expect("a count");
+        let block = line[3].parse().expect("a size block");
+        let right = line[4].parse().expect("a right");
+        let grant = encrypt(&key, 23, &bytes(&line[1])).expect("12 bytes");
+        let roll = Roll::with_counts([count; 200]);
+        let said = match roll.check(&key, 23, &grant, block, right) {
+            Ok(accepted) => format!("0 {} {}", accepted.contractor, accepted.right),
+            Err(refusal) => format!("{} 0 0", refusal.number()),
+        };
+        assert_eq!(line[5..].join(" "), said);
+    }
+}
+
+/// Where only the rights matter, because the count and the size block are those of
+/// the grant, `judged` accepts just what `covers` says.
+#[test]
+fn the_judgements_agree_with_what_the_rights_cover() {
+    let covers = lines_of("covers");
+    let judged = fields_of("judged");
+    let by_rights = judged.iter().filter(|line| line[2..4] == ["1", "300"]);
+    let mut compared = 0;
+    for line in by_rights {
+        let granted = bytes(&line[1])[8];
+        let yes = if line[5] == "0" { 1 } else { 0 };
+        let said = format!("covers {} {} {}", granted, line[4], yes);
+        assert!(covers.contains(&said), "{}", said);
+        compared += 1;
+    }
+    assert_eq!(compared, 7);
 }
 
 #[test]

@@ -72,7 +72,7 @@ fn the_log_starts_as_documented() {
         "issue 0 d32576330e4c32e359c52ef4",
         "check 0 125 2",
         "check 9 0 0",
-        "check 10 0 0",
+        "check 0 125 1",
         "enter 21",
         "withdraw 0",
         "check 20 0 0",
@@ -110,6 +110,17 @@ fn the_log_has_28_lines_for_each_of_48_lives() {
     assert!(lives.next().is_none());
 }
 
+/// What the check of grant A for the other right has to say. An overwriting grant
+/// opens its size block for reading, and reading is what is answered; a reading
+/// grant does not overwrite.
+fn check_for_the_other_right(life: &[String]) -> String {
+    match life[5].as_str() {
+        "1" => String::from("check 10 0 0"),
+        "2" => format!("check 0 {} 1", life[3]),
+        other => panic!("{} is no right", other),
+    }
+}
+
 /// The contractor's count is 0, then 1 from the first enter on, 2 from the
 /// withdrawal on and 3 from the last enter on. Grant A has count 1, grant B has
 /// count 3. The two grants are left out of the lines here.
@@ -117,13 +128,14 @@ fn the_log_has_28_lines_for_each_of_48_lives() {
 fn the_calls_of_every_life_end_as_worked_out_by_hand() {
     for log in log_lines().chunks(LINES_PER_LIFE) {
         let good = format!("check 0 {} {}", log[0][3], log[0][5]);
+        let other = check_for_the_other_right(&log[0]);
         let expected = [
             "issue 20",
             "enter 0",
             "issue 0",
             &good,
             "check 9 0 0",
-            "check 10 0 0",
+            &other,
             "enter 21",
             "withdraw 0",
             "check 20 0 0",
@@ -170,7 +182,7 @@ fn answer_for(life: &[String], plain: &[u8]) -> String {
         "8"
     } else if digits[8..16] != wanted[8..16] {
         "9"
-    } else if digits[16..18] != wanted[16..18] {
+    } else if (&digits[16..18], &wanted[16..18]) == ("01", "02") {
         "10"
     } else if digits[..4] != wanted[..4] {
         "20"
@@ -207,6 +219,22 @@ fn every_damaged_grant_is_refused_with_8() {
         assert_eq!(log[16..].len(), 12);
         assert!(log[16..].iter().all(|line| line[2..] == ["8", "0", "0"]));
     }
+}
+
+/// 22 of the 48 lives are for overwriting; in these the check for the other right is
+/// accepted, and it is refused with 10 in the other 26.
+#[test]
+fn the_checks_for_the_other_right_are_as_many_as_documented() {
+    let lines = log_lines();
+    let lives = |right| {
+        let of_right = |log: &&[Vec<String>]| log[0][5] == right;
+        lines.chunks(LINES_PER_LIFE).filter(of_right).count()
+    };
+    assert_eq!((lives("1"), lives("2")), (26, 22));
+    let refused = lines.iter().filter(|line| line.join(" ") == "check 10 0 0");
+    assert_eq!(refused.count(), 26);
+    let readme = include_str!("../README.md");
+    assert!(readme.contains("RIGHT is 1 in 26 lives and 2 in 22 lives"));
 }
 
 #[test]

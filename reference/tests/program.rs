@@ -244,7 +244,7 @@ fn grants_draws_its_inputs_as_documented() {
 
 /// The names of the lines of answers, each with how many there are of it and how many
 /// fields they have, the name being one of them.
-const ANSWERS: [(&str, usize, usize); 15] = [
+const ANSWERS: [(&str, usize, usize); 17] = [
     ("limits", 3, 4),
     ("roll", 1, 6),
     ("rollbytes", 1, 6),
@@ -254,6 +254,8 @@ const ANSWERS: [(&str, usize, usize); 15] = [
     ("list", 1, 4),
     ("turned", 1, 4),
     ("plain", 2, 6),
+    ("covers", 16, 4),
+    ("judged", 10, 8),
     ("walk", 11, 6),
     ("lent", 9, 4),
     ("walked", 14, 5),

@@ -4,7 +4,9 @@
 
 use curupira_reference::cipher::{decryption_keys, encrypt, encrypt_with};
 use curupira_reference::matrix::Matrix;
-use curupira_reference::roll::{in_standing, Accepted, Grant, Refusal, Roll, OVERWRITING, READING};
+use curupira_reference::roll::{
+    covers, in_standing, Accepted, Grant, Refusal, Roll, OVERWRITING, READING,
+};
 use curupira_reference::schedule::round_subkeys;
 
 /// A key of 12 bytes, with which 10 and 11 rounds are allowed.
@@ -77,7 +79,7 @@ fn the_numbers_are_as_documented() {
         (Refusal::NoSuchRight, 7),
         (Refusal::NoGrant, 8),
         (Refusal::OtherBlock, 9),
-        (Refusal::OtherRight, 10),
+        (Refusal::ReadingOnly, 10),
         (Refusal::NotInStanding, 20),
         (Refusal::InStanding, 21),
         (Refusal::Full, 22),
@@ -287,20 +289,78 @@ fn an_issued_grant_has_the_plain_bytes_and_the_count_of_the_roll() {
     }
 }
 
+/// The right in an issued grant, the right asked for, and what is answered. For
+/// another size block 9 comes first, whichever the rights are.
 #[test]
-fn an_issued_grant_is_accepted_for_its_block_and_right() {
+fn an_issued_grant_is_accepted_for_its_block_and_what_its_right_covers() {
     let roll = roll_at(1);
+    let cases = [
+        (READING, READING, accepted(READING)),
+        (READING, OVERWRITING, Err(Refusal::ReadingOnly)),
+        (OVERWRITING, READING, accepted(READING)),
+        (OVERWRITING, OVERWRITING, accepted(OVERWRITING)),
+    ];
     for block in [0, 1, 300, 4_294_967_295] {
-        for right in [READING, OVERWRITING] {
-            let grant = roll.issue(&KEY, ROUNDS, 7, block, right).unwrap();
-            let check = |block, right| roll.check(&KEY, ROUNDS, &grant, block, right);
-            assert_eq!(check(block, right), accepted(right));
-            assert_eq!(number(check(block.wrapping_add(1), right)), 9);
-            assert_eq!(number(check(block.wrapping_sub(1), right)), 9);
-            assert_eq!(number(check(block, 3 - right)), 10);
-            assert_eq!(number(check(block.wrapping_add(1), 3 - right)), 9);
+        for (granted, asked, answer) in cases {
+            let grant = roll.issue(&KEY, ROUNDS, 7, block, granted).unwrap();
+            let check = |block| roll.check(&KEY, ROUNDS, &grant, block, asked);
+            assert_eq!(check(block), answer, "{} for {}", granted, asked);
+            assert_eq!(number(check(block.wrapping_add(1))), 9);
+            assert_eq!(number(check(block.wrapping_sub(1))), 9);
         }
     }
+}
+
+/// Of all pairs of bytes, three: reading for reading, overwriting for reading and
+/// for overwriting.
+#[test]
+fn a_right_covers_what_the_rule_says_and_nothing_else() {
+    for granted in 0..=255 {
+        for asked in 0..=255 {
+            let named = [(1, 1), (2, 1), (2, 2)].contains(&(granted, asked));
+            assert_eq!(covers(granted, asked), named, "{} for {}", granted, asked);
+        }
+    }
+}
+
+/// What checks of one grant for reading and for overwriting answer. The grant has
+/// the given contractor, count and right, and is for size block 300. Everyone in the
+/// roll has the same count.
+fn both_checks(
+    (contractor, count, right): (u8, u8, u8),
+    everyones_count: u16,
+    block: u32,
+) -> [Result<Accepted, Refusal>; 2] {
+    let plain = plain_with(&[(1, contractor), (3, count), (8, right)]);
+    let grant = enciphered(&plain);
+    let roll = roll_at(everyones_count);
+    [1, 2].map(|asked| roll.check(&KEY, ROUNDS, &grant, block, asked))
+}
+
+/// If a check for overwriting is accepted, then the same check for reading is, with
+/// the same contractor and the right reading. It is accepted for 3 contractors with
+/// counts 1 and 3, which is 6 times; the check for reading is accepted for as many
+/// reading grants besides. All contractors are below 256.
+#[test]
+fn who_may_overwrite_may_look() {
+    let (mut overwritten, mut read) = (0, 0);
+    for contractor in [0, 1, 7, 200, 201] {
+        for (count, everyones) in [(1, 1), (3, 3), (1, 3), (3, 1), (2, 2), (1, 2)] {
+            for (right, block) in [(0, 300), (1, 300), (2, 300), (3, 300), (2, 301)] {
+                let of = (contractor, count, right);
+                let [for_reading, for_overwriting] = both_checks(of, everyones, block);
+                if let Ok(answer) = for_overwriting {
+                    let contractor = u16::from(contractor);
+                    assert_eq!((answer.contractor, answer.right), (contractor, 2));
+                    let right = 1;
+                    assert_eq!(for_reading, Ok(Accepted { contractor, right }));
+                    overwritten += 1;
+                }
+                read += usize::from(for_reading.is_ok());
+            }
+        }
+    }
+    assert_eq!((overwritten, read), (6, 12));
 }
 
 #[test]
@@ -401,10 +461,21 @@ fn a_wrong_contractor_in_the_grant_is_refused() {
     }
 }
 
+/// The right in the grant, and the numbers if reading and if overwriting is asked
+/// for. Reason 8 comes before 10, and a number that is no right covers neither.
 #[test]
 fn a_wrong_right_in_the_grant_is_refused() {
-    for (right, refused) in [(0, 8), (1, 10), (2, 0), (3, 8), (130, 8), (255, 8)] {
-        assert_eq!(number_for_plain(&plain_with(&[(8, right)])), refused);
+    let cases = [
+        (0, [8, 8]),
+        (1, [0, 10]),
+        (2, [0, 0]),
+        (3, [8, 8]),
+        (130, [8, 8]),
+        (255, [8, 8]),
+    ];
+    for (right, refused) in cases {
+        let answers = both_checks((7, 1, right), 1, 300);
+        assert_eq!(answers.map(number), refused, "right {}", right);
     }
 }
 
@@ -496,25 +567,45 @@ fn issue_with(reasons: &[u8]) -> u8 {
     number(roll.issue(key, rounds, contractor, 300, right))
 }
 
-/// The number of a check in which the given reasons hold. For reason 20 the roll
+/// The number of a check with these rights, in the grant and asked for, in which the
+/// given reasons hold. For reason 7, 3 is asked for instead. For reason 20 the roll
 /// has count 2, and the grant has it too unless reason 23 is given.
-fn check_with(reasons: &[u8]) -> u8 {
+fn check_of(granted: u8, asked: u8, reasons: &[u8]) -> u8 {
     let holds = |reason: u8| reasons.contains(&reason);
     let (key, rounds) = key_and_rounds(reasons);
     let count = if holds(20) { 2 } else { 1 };
     let count_in_grant = if holds(23) { 3 } else { count };
     let last = if holds(8) { 0x45 } else { 0x44 };
-    let mut grant = enciphered(&plain_with(&[(3, count_in_grant), (11, last)]));
+    let plain = plain_with(&[(3, count_in_grant), (8, granted), (11, last)]);
+    let mut grant = enciphered(&plain);
     grant.truncate(if holds(3) { 11 } else { 12 });
     let block = if holds(9) { 301 } else { 300 };
-    let right = if holds(7) {
-        3
-    } else if holds(10) {
+    let right = if holds(7) { 3 } else { asked };
+    number(roll_at(u16::from(count)).check(key, rounds, &grant, block, right))
+}
+
+/// The number of a check for overwriting in which the given reasons hold. For reason
+/// 10 it is one of a reading grant, otherwise of an overwriting grant. Reasons 7 and
+/// 10 do not hold together; given both, right 3 is asked of a reading grant.
+fn check_with(reasons: &[u8]) -> u8 {
+    let granted = if reasons.contains(&10) {
         READING
     } else {
         OVERWRITING
     };
-    number(roll_at(u16::from(count)).check(key, rounds, &grant, block, right))
+    check_of(granted, OVERWRITING, reasons)
+}
+
+/// The number of a check of an overwriting grant for reading in which the given
+/// reasons hold. Reason 10 is never one of them.
+fn look_with(reasons: &[u8]) -> u8 {
+    check_of(OVERWRITING, READING, reasons)
+}
+
+/// The number of a check of a reading grant for reading in which the given reasons
+/// hold. Reason 10 is never one of them.
+fn read_with(reasons: &[u8]) -> u8 {
+    check_of(READING, READING, reasons)
 }
 
 /// A call in which nothing is wrong is not refused; one in which one reason holds
@@ -539,4 +630,12 @@ fn an_issue_is_refused_with_the_first_of_two_reasons() {
 #[test]
 fn a_check_is_refused_with_the_first_of_two_reasons() {
     check_order(&[1, 2, 3, 7, 8, 9, 10, 20, 23], check_with);
+}
+
+/// An overwriting grant opens its size block for reading on the same terms as a
+/// reading grant does.
+#[test]
+fn a_check_for_reading_is_refused_with_the_first_of_the_same_reasons() {
+    check_order(&[1, 2, 3, 7, 8, 9, 20, 23], look_with);
+    check_order(&[1, 2, 3, 7, 8, 9, 20, 23], read_with);
 }

@@ -1,4 +1,4 @@
-//! Checks of grants, good ones and such as are wrong in one or two ways.
+//! Checks of grants, good ones and such as are changed in one or two ways.
 
 use std::collections::BTreeSet;
 
@@ -6,38 +6,54 @@ use curupira_reference::cipher::allowed_rounds;
 use curupira_reference::generator::Generator;
 
 use super::{same, same_in_c, text, Tally, INDEPENDENT_STEP, INPUTS, KEY_LENGTHS};
+use crate::interface::LIBRARY;
 use crate::question::{draw_counts, draw_grant, draw_number, enciphered, roll_bytes, Question};
 
 /// The reasons for which a grant of the right length is refused. All of them have
 /// to occur.
 const REASONS: [u32; 5] = [8, 9, 10, 20, 23];
 
-/// The ways in which a grant is made wrong are 0 to 7; from there on it is left.
+/// The ways in which a grant is changed are 0 to 7; from there on it is left. All but
+/// one make it wrong: the other right does so only where the grant is for reading.
 const WAYS: u8 = 20;
 
-/// The number of grants, and how many of them open.
+/// The number of grants, and how many of them open. Some that open have to be for
+/// another right than the one asked for: for overwriting, and asked for reading.
 pub fn check(generator: &mut Generator) -> Result<(Tally, usize), String> {
     let mut tally = Tally::default();
-    let mut opened = 0;
+    let (mut opened, mut looks) = (0, 0);
     let mut refusals = BTreeSet::new();
     for key_length in KEY_LENGTHS {
         for rounds in allowed_rounds(key_length).map_err(text)? {
             for _ in 0..INPUTS {
                 let question = draw_question(generator, key_length, rounds as u32);
                 match check_question(&question, &mut tally)? {
-                    1000.. => opened += 1,
+                    1000.. => {
+                        opened += 1;
+                        looks += usize::from(right_in_grant(&question) != question.right);
+                    }
                     refusal => drop(refusals.insert(refusal)),
                 }
             }
         }
     }
-    if opened > 0 && refusals == BTreeSet::from(REASONS) {
+    if looks > 0 && opened > looks && refusals == BTreeSet::from(REASONS) {
         Ok((tally, opened))
     } else {
         Err(format!(
-            "{opened} grants open; the reasons are {refusals:?}"
+            "{opened} grants open, {looks} of them for another right; the reasons are {refusals:?}"
         ))
     }
+}
+
+/// The right in the grant of a question.
+fn right_in_grant(question: &Question) -> u32 {
+    let Question {
+        key, rounds, grant, ..
+    } = question;
+    let mut plain = [0; 12];
+    LIBRARY.decipher(key, *rounds, grant, &mut plain);
+    u32::from(plain[8])
 }
 
 /// The library's answer, if the others give the same.
@@ -54,7 +70,7 @@ fn check_question(question: &Question, tally: &mut Tally) -> Result<u32, String>
     Ok(library)
 }
 
-/// A grant that opens, but for what two draws make wrong.
+/// A grant that opens, but for what two draws change.
 fn draw_question(generator: &mut Generator, key_length: usize, rounds: u32) -> Question {
     let ways = [generator.byte() % WAYS, generator.byte() % WAYS];
     let mut counts = draw_counts(generator);

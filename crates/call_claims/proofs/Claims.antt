@@ -2,7 +2,7 @@
 use mathlib.Core.Path.{_≡_, refl, sym, ap, _∙_}
 use mathlib.Core.Bool.{Bool, true, false}
 use mathlib.Core.List.{List, [], _∷_}
-use Prim.Native.Nat.{ℕ, _+_, _*_, _≤_}
+use Prim.Native.Nat.{ℕ, _≤_}
 use native.Mathlib.Omega.{arith}
 use lib.Dec.{leb, lit<}
 use lib.ListN.{length, replicate}
@@ -18,6 +18,7 @@ use Rattle.roll_bytes.specs.RollBytes.{countsOf, rollLength, rollOf, countsByte
 use Rattle.histories.specs.Histories.{Change, enter, rollAfter}
 use Rattle.histories.proofs.Counts.{zeros-small}
 use Rattle.grant.specs.declared.Verdict.the-variants.{Opens, Refused}
+use Rattle.grant.specs.Grants.{isRight}
 use Rattle.issuing.specs.Issuing.{issueTries, issuedGrant}
 use Rattle.checking.specs.Checking.{checkNumber}
 use Rattle.revocation.specs.Claims.{Issued, OpensNothing, IssuedOpens, RevokedNeverOpens, RevokedInTwoRooms}
@@ -27,9 +28,11 @@ use Rattle.roll_calls.specs.RollCalls.{enterCallRoll}
 use Rattle.issue_call.specs.IssueCall.{issueCallTries, issueCallNumber, issueCallOutput}
 use Rattle.call_claims.specs.CallHistories.{called, bytesAfter, here, CallIssued, grantGiven}
 use Rattle.call_claims.specs.Claims.{CodesTellVerdicts, ChecksNameContractors, CallInOrder, CallOpensExactlyWhen, CallNeverZero, CallIsCheck}
-use Rattle.call_claims.specs.Claims.{Refuses, BytesFollowRoll, CallIssuedOpens, CallsRevoke, CallsRevokeInTwoRooms, CallsRevokeSomething}
+use Rattle.call_claims.specs.Claims.{BytesFollowRoll, CallChecks, CallIssuedOpens, CallOverwritingOpensReading, CallTenOnlyForOverwriting}
+use Rattle.call_claims.specs.Claims.{CallAnswersTo7, Refuses, CallsRevoke, CallsRevokeInTwoRooms, CallsRevokeSomething}
 use Rattle.call_claims.proofs.Codes as codes
-use Rattle.call_claims.proofs.Opens.{checked-contractor, in-order, is-check, call-opening, call-accepted, never-zero, call-passed, call-given}
+use Rattle.call_claims.proofs.Opens.{checked-contractor, in-order, is-check, call-opening, call-accepted, never-zero, call-passed}
+use Rattle.call_claims.proofs.Opens.{call-given, call-ten, call-refused, call-looks}
 use Rattle.call_claims.proofs.Stored.{is-roll, after-holds, withdrawn-read}
 
 -- ---- the check's number
@@ -70,11 +73,11 @@ module _ (key : List ℕ) (rounds : ℕ) (roll : List ℕ) (contractor block rig
   allowed : NoneHolds (issueCallTries key rounds roll contractor block right out)
   allowed = all-pass (issueCallTries key rounds roll contractor block right out) refl (i .number)
 
-  long : length roll ≡ rollLength
+  pub long : length roll ≡ rollLength
   long = eqb-true (length roll) rollLength (allowed .1 .1 .0)
 
   -- it is one that was issued on the roll that is read
-  issued : Issued key rounds (rollOf roll) contractor block right out
+  pub issued : Issued key rounds (rollOf roll) contractor block right out
   issued = record {
     key-bytes = i .key-bytes;
     block-small = i .block-small;
@@ -85,12 +88,22 @@ module _ (key : List ℕ) (rounds : ℕ) (roll : List ℕ) (contractor block rig
   unfolding issueCallOutput issuedGrant cipherBlock
   given = starts (issueCallNumber key rounds roll contractor block right out) (issuedGrant key rounds (rollOf roll) contractor block right) out (i .number) .1
 
-  pub opens : callCode key rounds roll (grantGiven key rounds roll contractor block right out) block right ≡ 1000 * right + contractor
+  abbrev g : List ℕ
+  g = issuedGrant key rounds (rollOf roll) contractor block right
+
+  pub as-issued : (r : ℕ) → callCode key rounds roll (grantGiven key rounds roll contractor block right out) block r ≡ callCode key rounds roll g block r
+  as-issued r = ap (λ (g : List ℕ). callCode key rounds roll g block r) given
+
+  pub checks : CallChecks key rounds roll contractor block right out
   unfolding IssuedOpens
-  opens =
-      ap (λ (g : List ℕ). callCode key rounds roll g block right) given
-      ∙ call-given key rounds roll (issuedGrant key rounds (rollOf roll) contractor block right) block right long contractor
-      (issued-opens key rounds (rollOf roll) contractor block right out issued .opens)
+  checks =
+      let w = issued-opens key rounds (rollOf roll) contractor block right out issued in
+      record {
+        opens = as-issued right ∙ call-given key rounds roll g block right long contractor (w .opens);
+        looks = λ e. as-issued 1 ∙ call-given key rounds roll g block 1 long contractor (w .looks e);
+        only-reads = λ e. as-issued 2 ∙ call-refused key rounds roll g block 2 long 10 (lit< tt) (w .only-reads e);
+        no-right = λ asked q. as-issued asked ∙ call-refused key rounds roll g block asked long 7 (lit< tt) (w .no-right asked q);
+      }
 
   -- where it opens nothing on the roll after some calls, gordzila_check refuses it on the bytes after them
   refused : (hs : List Change) → OpensNothing key rounds (rollAfter hs (rollOf roll)) (issuedGrant key rounds (rollOf roll) contractor block right)
@@ -109,7 +122,36 @@ module _ (key : List ℕ) (rounds : ℕ) (roll : List ℕ) (contractor block rig
 
 pub call-issued-opens : CallIssuedOpens
 unfolding CallIssuedOpens
-call-issued-opens = opens
+call-issued-opens = checks
+
+pub call-overwriting-opens-reading : CallOverwritingOpensReading
+unfolding CallOverwritingOpensReading
+call-overwriting-opens-reading = call-looks
+
+pub call-ten-only-for-overwriting : CallTenOnlyForOverwriting
+unfolding CallTenOnlyForOverwriting
+call-ten-only-for-overwriting = call-ten
+
+-- on zeros contractor 7 is entered, and gets a grant with either right
+issued-7 : (right : ℕ) → isRight right ≡ true
+    → CallIssued (replicate 12 0) 10 (bytesAfter (enter 7 ∷ []) (replicate rollLength 0)) 7 300 right (replicate 12 0)
+unfolding bytesAfter called enterCallRoll first written answered rollOf countsOf rollBytes countsBytes countOf inStanding counted enteredRoll
+issued-7 right q =
+    let roll = bytesAfter (enter 7 ∷ []) (replicate rollLength 0) in
+    record {
+      key-bytes = zeros-small (lit< tt) 12;
+      roll-bytes = after-holds (enter 7 ∷ []) (replicate rollLength 0) (zeros-small (lit< tt) rollLength) refl .small;
+      block-small = lit< tt;
+      number = none-given (issueCallTries (replicate 12 0) 10 roll 7 300 right (replicate 12 0)) (refl, (refl, (refl, (refl, (refl, (q, (refl, tt)))))));
+    }
+
+pub call-answers-to-7 : CallAnswersTo7
+unfolding CallAnswersTo7
+call-answers-to-7 =
+    let roll = bytesAfter (enter 7 ∷ []) (replicate rollLength 0) in
+    let overwriting = checks (replicate 12 0) 10 roll 7 300 2 (replicate 12 0) (issued-7 2 refl) in
+    let reading = checks (replicate 12 0) 10 roll 7 300 1 (replicate 12 0) (issued-7 1 refl) in
+    (overwriting .looks refl, (overwriting .opens, (reading .opens, reading .only-reads refl)))
 
 pub calls-revoke : CallsRevoke
 unfolding CallsRevoke RevokedNeverOpens
@@ -129,12 +171,4 @@ calls-revoke-in-two-rooms key rounds roll contractor block right out i xs ys zs 
 pub calls-revoke-something : CallsRevokeSomething
 unfolding CallsRevokeSomething bytesAfter called enterCallRoll first written answered rollOf countsOf rollBytes countsBytes countOf inStanding counted
     enteredRoll
-calls-revoke-something = (
-  record {
-    key-bytes = zeros-small (lit< tt) 12;
-    roll-bytes = after-holds (enter 7 ∷ []) (replicate rollLength 0) (zeros-small (lit< tt) rollLength) refl .small;
-    block-small = lit< tt;
-    number = refl;
-  },
-  here refl,
-)
+calls-revoke-something = (issued-7 2 refl, here refl)

@@ -12,16 +12,18 @@ use Rattle.basics.proofs.Tests.{and-first, and-second}
 use Rattle.refusal.specs.Tries.{first, answered}
 use Rattle.refusal.proofs.Tries.{none-given}
 use Rattle.refusal.proofs.Ladder.{all-pass, ordered, first-small}
-use Rattle.refusal.proofs.Answers.{answer-done}
+use Rattle.refusal.proofs.Answers.{answer-refused, answer-done}
 use Rattle.roll.specs.declared.Roll.{Roll}
 use Rattle.roll_bytes.specs.RollBytes.{rollLength, rollOf}
 use Rattle.roll.proofs.Contractors.{a-contractor}
-use Rattle.grant.specs.Grants.{contractorIn, rightIn}
+use Rattle.grant.specs.Grants.{contractorIn}
 use Rattle.judging.specs.Judging.{inputTries, plainTries}
 use Rattle.checking.specs.Checking.{openedGrant, countNow, checkTries, checkNumber, checkContractor, checkRight}
+use Rattle.grant.proofs.Rights.{right-least}
 use Rattle.grant.proofs.Tests.{a-grant}
-use Rattle.revocation.specs.Claims.{Opening, Accepted, OpensExactlyWhen}
-use Rattle.revocation.proofs.Claims.{opens-exactly-when}
+use Rattle.revocation.specs.Claims.{Opening, Accepted, ReadingGrant, OpensExactlyWhen, OverwritingOpensReading}
+use Rattle.revocation.proofs.Looks.{ten}
+use Rattle.revocation.proofs.Claims.{opens-exactly-when, overwriting-opens-reading}
 use Rattle.check_call.specs.CheckCall.{callTries, callCode}
 use Rattle.check_call.proofs.Codes.{parts}
 use Rattle.call_claims.specs.Claims.{CallOrdered, checkCode}
@@ -34,6 +36,15 @@ answer-some n x h = by (eqb n 0) refl
     by : (b : Bool) → eqb n 0 ≡ b → 1 ≤ cond b x n
     by true e = h (eqb-true n 0 e)
     by false e = omega (arith, eqb-false n 0 e)
+
+-- an answer that is below any of a grant that opens is the refusal
+refused-with : (n x k : ℕ) → (n ≡ 0 → k < x) → answered n x n ≡ k → n ≡ k
+unfolding answered
+refused-with n x k h e = by (eqb n 0) refl e
+  where
+    by : (b : Bool) → eqb n 0 ≡ b → cond b x n ≡ k → n ≡ k
+    by true z e = let f : ⊥ = omega (arith, h (eqb-true n 0 z), e) in absurd f
+    by false z e = e
 
 accepted-above : (n x : ℕ) → n < 1000 → 1000 ≤ answered n x n → n ≡ 0
 unfolding answered
@@ -70,15 +81,15 @@ module _ (key : List ℕ) (rounds : ℕ) (roll grant : List ℕ) (block right : 
   unfolding callCode checkContractor checkRight numbered-as
   is-check l =
       let p = openedGrant key rounds grant in
-      ap (λ (b : Bool). answered (numbered-as b) (1000 * rightIn p + contractorIn p) (numbered-as b)) (eq-eqb (length roll) rollLength l)
-      ∙ sym (parts (checkNumber key rounds (rollOf roll) grant block right) (rightIn p) (contractorIn p))
+      ap (λ (b : Bool). answered (numbered-as b) (1000 * right + contractorIn p) (numbered-as b)) (eq-eqb (length roll) rollLength l)
+      ∙ sym (parts (checkNumber key rounds (rollOf roll) grant block right) right (contractorIn p))
 
   pub never-zero : 1 ≤ callCode key rounds roll grant block right
   unfolding callCode
   never-zero =
       let p = openedGrant key rounds grant in
       let ts = callTries key rounds roll grant block right in
-      answer-some (first ts) (1000 * rightIn p + contractorIn p)
+      answer-some (first ts) (1000 * right + contractorIn p)
       (λ e. omega (arith, a-contractor (contractorIn p) (a-grant p (all-pass ts refl e .1 .1 .1 .1 .0) .contractor) .least))
 
   -- a number of 1,000 or more: the check was not refused
@@ -104,6 +115,46 @@ module _ (key : List ℕ) (rounds : ℕ) (roll grant : List ℕ) (block right : 
       ∙ sym (answer-done (checkTries key rounds (rollOf roll) grant block right) (1000 * r + n) (checkNumber key rounds (rollOf roll) grant block right)
       (a .number))
       ∙ ap₂ (λ (x y : ℕ). 1000 * x + y) (a .answers-right) (a .answers-contractor)
+
+  pub call-ten : callCode key rounds roll grant block right ≡ 10 → ReadingGrant key rounds grant right
+  unfolding callCode
+  call-ten e =
+      let ts = callTries key rounds roll grant block right in
+      let lengths = eqb (length roll) rollLength && eqb (length grant) 12 in
+      ten key rounds lengths grant (countNow key rounds (rollOf roll) grant) block right
+      (refused-with (first ts) (1000 * right + contractorIn (openedGrant key rounds grant)) 10
+      (λ z. omega (arith, right-least right (all-pass ts refl z .1 .1 .1 .0))) e)
+
+  -- a refusal of the check is the call's
+  pub call-refused : length roll ≡ rollLength → (n : ℕ) → 0 < n → checkNumber key rounds (rollOf roll) grant block right ≡ n
+      → callCode key rounds roll grant block right ≡ n
+  call-refused l n h e =
+      let r = checkRight key rounds (rollOf roll) grant block right in
+      let c = checkContractor key rounds (rollOf roll) grant block right in
+      is-check l
+      ∙ sym (answer-refused (checkTries key rounds (rollOf roll) grant block right) n (1000 * r + c)
+      (checkNumber key rounds (rollOf roll) grant block right) h e)
+      ∙ e
+
+-- a check that is not refused, by what it answers
+accepted-as : (key : List ℕ) (rounds : ℕ) (roll : Roll) (grant : List ℕ) (block right : ℕ) → checkNumber key rounds roll grant block right ≡ 0
+    → Accepted key rounds roll grant block right (checkContractor key rounds roll grant block right)
+unfolding checkRight
+accepted-as key rounds roll grant block right e = record {
+  number = e;
+  answers-contractor = refl;
+  answers-right = sym (answer-done (checkTries key rounds roll grant block right) right 0 e);
+}
+
+pub call-looks : (key : List ℕ) (rounds : ℕ) (roll grant : List ℕ) (block : ℕ)
+    → 1000 ≤ callCode key rounds roll grant block 2 → callCode key rounds roll grant block 2 ≡ 1000 + callCode key rounds roll grant block 1
+unfolding OverwritingOpensReading
+call-looks key rounds roll grant block h =
+    let w = call-passed key rounds roll grant block 2 h in
+    let a = accepted-as key rounds (rollOf roll) grant block 2 (w .1) in
+    let c = checkContractor key rounds (rollOf roll) grant block 2 in
+    let looks = overwriting-opens-reading key rounds (rollOf roll) grant block c a in
+    omega (arith, call-given key rounds roll grant block 2 (w .0) c a, call-given key rounds roll grant block 1 (w .0) c looks)
 
 module _ (key : List ℕ) (hk : AreBytes key) (rounds : ℕ) (roll grant : List ℕ) (hg : AreBytes grant) (block : ℕ) (few : block < 4294967296)
     (right : ℕ) where

@@ -1,5 +1,6 @@
 -- What is claimed of the C calls: of the check's number, and of a store through lists of calls. A term of each type stands in
 -- proofs/Claims.antt.
+use mathlib.Core.Bool.{false}
 use mathlib.Core.Logic.{_⊎_}
 use mathlib.Core.Path.{_≡_}
 use mathlib.Core.List.{List, [], _∷_}
@@ -13,9 +14,9 @@ use Rattle.roll_bytes.specs.RollBytes.{rollLength, rollOf}
 use Rattle.histories.specs.Histories.{Change, enter, withdraw, rollAfter, Withdraws, Merge}
 use Rattle.grant.specs.declared.Verdict.{Verdict}
 use Rattle.grant.specs.declared.Verdict.the-variants.{Opens, Refused}
-use Rattle.grant.specs.Grants.{contractorIn, rightIn, verdictNumber, verdictContractor}
+use Rattle.grant.specs.Grants.{isRight, contractorIn, verdictNumber, verdictContractor}
 use Rattle.checking.specs.Checking.{openedGrant, checkNumber, checkContractor, checkRight}
-use Rattle.revocation.specs.Claims.{Opening}
+use Rattle.revocation.specs.Claims.{Opening, ReadingGrant}
 use Rattle.check_call.specs.CheckCall.{verdictCode, callTries, callCode}
 use Rattle.call_claims.specs.CallHistories.{bytesAfter, CallWithdrawn, CallIssued, grantGiven}
 
@@ -36,12 +37,12 @@ ChecksNameContractors = (key : List ℕ) (rounds : ℕ) (roll : Roll) (grant : L
     → verdictContractor v ≡ checkContractor key rounds roll grant block right
     → OfContractor v
 
--- the C call gives the first reason of its order line that holds, and where none does, right and contractor
+-- the C call gives the first reason of its order line that holds, and where none does, the right that was asked for and the grant's contractor
 pub record CallOrdered (key : List ℕ) (rounds : ℕ) (roll grant : List ℕ) (block right : ℕ) : Type 0 where
   pub tries : Ordered (callTries key rounds roll grant block right)
   pub code : callCode key rounds roll grant block right
       ≡ answered (first (callTries key rounds roll grant block right))
-      (1000 * rightIn (openedGrant key rounds grant) + contractorIn (openedGrant key rounds grant))
+      (1000 * right + contractorIn (openedGrant key rounds grant))
       (first (callTries key rounds roll grant block right))
 
 unfoldable pub CallInOrder : Type 0
@@ -59,7 +60,8 @@ CallOpensExactlyWhen = (key : List ℕ) → AreBytes key → (rounds : ℕ) (rol
 unfoldable pub CallNeverZero : Type 0
 CallNeverZero = (key : List ℕ) (rounds : ℕ) (roll grant : List ℕ) (block right : ℕ) → 1 ≤ callCode key rounds roll grant block right
 
--- on a roll's bytes the C call is the check on the roll that is read from them: the refusal number, or 1,000 times the right plus the contractor
+-- on a roll's bytes the C call is the check on the roll that is read from them: the refusal number, or 1,000 times the
+-- right that it answers plus the contractor
 abbrev pub checkCode : List ℕ → ℕ → Roll → List ℕ → ℕ → ℕ → ℕ
 checkCode key rounds roll grant block right =
     answered (checkNumber key rounds roll grant block right)
@@ -82,12 +84,40 @@ unfoldable pub BytesFollowRoll : Type 0
 BytesFollowRoll = (bytes : List ℕ) → AreBytes bytes → length bytes ≡ rollLength → (hs : List Change)
     → Holds (bytesAfter hs bytes) (rollAfter hs (rollOf bytes))
 
--- a grant that was issued opens on the same roll: the answer is 1,000 times the right plus the contractor
+-- a grant that was issued opens on the same roll: the answer is 1,000 times its right plus the contractor. A grant to overwrite opens for reading
+-- too, answering reading, and one to read is refused with 10 for overwriting
+pub record CallChecks (key : List ℕ) (rounds : ℕ) (roll : List ℕ) (contractor block right : ℕ) (out : List ℕ) : Type 0 where
+  pub opens : callCode key rounds roll (grantGiven key rounds roll contractor block right out) block right ≡ 1000 * right + contractor
+  pub looks : right ≡ 2 → callCode key rounds roll (grantGiven key rounds roll contractor block right out) block 1 ≡ 1000 + contractor
+  pub only-reads : right ≡ 1 → callCode key rounds roll (grantGiven key rounds roll contractor block right out) block 2 ≡ 10
+  pub no-right : (asked : ℕ) → isRight asked ≡ false
+      → callCode key rounds roll (grantGiven key rounds roll contractor block right out) block asked ≡ 7
+
 unfoldable pub CallIssuedOpens : Type 0
 CallIssuedOpens = (key : List ℕ) (rounds : ℕ) (roll : List ℕ) (contractor block right : ℕ) (out : List ℕ)
-    → CallIssued key rounds roll contractor block right out
-    → callCode key rounds roll (grantGiven key rounds roll contractor block right out) block right ≡ 1000 * right + contractor
+    → CallIssued key rounds roll contractor block right out → CallChecks key rounds roll contractor block right out
 
+-- ---- looking before overwriting
+-- whatever opens for overwriting opens for reading, with the same contractor: asked for reading, the answer is 1,000 less
+unfoldable pub CallOverwritingOpensReading : Type 0
+CallOverwritingOpensReading = (key : List ℕ) (rounds : ℕ) (roll grant : List ℕ) (block : ℕ)
+    → 1000 ≤ callCode key rounds roll grant block 2 → callCode key rounds roll grant block 2 ≡ 1000 + callCode key rounds roll grant block 1
+
+-- 10 is answered only where overwriting is asked of a whole grant to read
+unfoldable pub CallTenOnlyForOverwriting : Type 0
+CallTenOnlyForOverwriting = (key : List ℕ) (rounds : ℕ) (roll grant : List ℕ) (block right : ℕ)
+    → callCode key rounds roll grant block right ≡ 10 → ReadingGrant key rounds grant right
+
+-- an example. On zeros contractor 7 is entered, and gets a grant for size block 300 with a right; what the check of it answers, asked for another
+abbrev pub answerTo7 : ℕ → ℕ → ℕ
+answerTo7 right asked =
+    callCode (replicate 12 0) 10 (bytesAfter (enter 7 ∷ []) (replicate rollLength 0))
+    (grantGiven (replicate 12 0) 10 (bytesAfter (enter 7 ∷ []) (replicate rollLength 0)) 7 300 right (replicate 12 0)) 300 asked
+
+unfoldable pub CallAnswersTo7 : Type 0
+CallAnswersTo7 = (answerTo7 2 1 ≡ 1007) × ((answerTo7 2 2 ≡ 2007) × ((answerTo7 1 1 ≡ 1007) × (answerTo7 1 2 ≡ 10)))
+
+-- ---- revocation
 -- gordzila_check answers with a refusal, a number from 1 to 999, whatever size block and right are asked for
 abbrev pub Refuses : List ℕ → ℕ → List ℕ → List ℕ → Type 0
 Refuses key rounds roll grant = (block right : ℕ)

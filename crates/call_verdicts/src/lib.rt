@@ -19,8 +19,7 @@ pub fn call_check(
     capi::gordzila_check(key, rounds, roll, grant, size_block, right)
 }
 
-// Issues a grant, and checks the twelve bytes that were written: the number of the refusal to issue, or 1,000 times the right plus the
-// contractor.
+// Issues a grant, and checks the twelve bytes that were written, for any right: the number of the refusal to issue, or what the check answers.
 pub fn call_issue_then_check(
     key: &[u8],
     rounds: u32,
@@ -28,9 +27,10 @@ pub fn call_issue_then_check(
     contractor: u32,
     size_block: u32,
     right: u32,
+    asked: u32,
     out: &mut [u8],
 ) -> u32
-    ensures { λ r. ⌜ r ≡ issuedCode (now (key .entry)) rounds (now (roll .entry)) contractor «size_block» right (now (out .entry)) ⌝ }
+    ensures { λ r. ⌜ r ≡ issuedCode (now (key .entry)) rounds (now (roll .entry)) contractor «size_block» right asked (now (out .entry)) ⌝ }
     ensures { λ _. ⌜ now (out .exit) ≡ issueCallOutput (now (key .entry)) rounds (now (roll .entry)) contractor «size_block» right
         (now (out .entry)) ⌝ }
 {
@@ -38,5 +38,5 @@ pub fn call_issue_then_check(
     if number != 0 {
         return number;
     }
-    capi::gordzila_check(key, rounds, roll, &out[..12], size_block, right)
+    capi::gordzila_check(key, rounds, roll, &out[..12], size_block, asked)
 }

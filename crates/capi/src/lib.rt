@@ -1,5 +1,5 @@
 // The C interface: the calls over numbers and byte slices. A slice is a pointer and a length. Each answers 0, or the number of the reason
-// for which it refuses; where it does not refuse, the check answers with contractor and right, and a walk with its steps and direction.
+// for which it refuses; where it does not refuse, the check answers with contractor and the right asked for, and a walk with its steps and direction.
 
 ghost use mathlib.Core.Path.{_≡_};
 ghost use Rattle.engine.specs.Engine.{engineNumber, engineOutput};
@@ -61,7 +61,7 @@ pub extern "C" fn gordzila_run(list: &[u8], block: &[u8], out: &mut [u8]) -> u32
     refusal::outcome_number(engine::run(list, block, out))
 }
 
-// Checks a grant for one size block and one right: the refusal number, or 1,000 times the right plus the contractor.
+// Checks a grant for one size block and one right: the refusal number, or 1,000 times that right plus the contractor.
 #[no_mangle]
 pub extern "C" fn gordzila_check(
     key: &[u8],

@@ -48,6 +48,14 @@ parts n r c = by (eqb n 0)
     by true = refl
     by false = refl
 
+-- the number of a verdict that is told by what was tried
+pub told : (ys : List Try) (c r n contractor right : ℕ) → Tells ys c r n contractor right
+    → answered n (1000 * right + contractor) n ≡ answered (first ys) (1000 * r + c) (first ys)
+told ys c r n contractor right t =
+    ap (λ (n : ℕ). answered n (1000 * right + contractor) n) (t .0)
+    ∙ ap₂ (λ (a b : ℕ). answered (first ys) (1000 * a + b) (first ys)) (t .1 .1) (t .1 .0)
+    ∙ parts (first ys) r c
+
 module _ (xs ys : List Try) where
   -- the input was refused
   pub call-refused : (n x : ℕ) → 0 < n → n ≡ first xs → n ≡ answered (first (xs ++ ys)) x (first (xs ++ ys))
@@ -59,6 +67,5 @@ module _ (xs ys : List Try) where
   pub call-judged : (c r : ℕ) (v : Verdict) → NoneHolds xs → Tells ys c r (verdictNumber v) (verdictContractor v) (verdictRight v)
       → verdictCode v ≡ answered (first (xs ++ ys)) (1000 * r + c) (first (xs ++ ys))
   call-judged c r v h t =
-      code-of v ∙ ap (λ (n : ℕ). answered n (1000 * verdictRight v + verdictContractor v) n) (t .0)
-      ∙ ap₂ (λ (a b : ℕ). answered (first ys) (1000 * a + b) (first ys)) (t .1 .1) (t .1 .0)
-      ∙ parts (first ys) r c ∙ ap (λ (n : ℕ). answered n (1000 * r + c) n) (sym (first-then xs ys h))
+      code-of v ∙ told ys c r (verdictNumber v) (verdictContractor v) (verdictRight v) t
+      ∙ ap (λ (n : ℕ). answered n (1000 * r + c) n) (sym (first-then xs ys h))

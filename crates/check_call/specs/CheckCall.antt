@@ -9,7 +9,7 @@ use Rattle.refusal.specs.Tries.{Try, first, answered}
 use Rattle.roll_bytes.specs.RollBytes.{rollLength, rollOf}
 use Rattle.grant.specs.declared.Verdict.{Verdict}
 use Rattle.grant.specs.declared.Verdict.the-variants.{Opens, Refused}
-use Rattle.grant.specs.Grants.{rightNumber, contractorIn, rightIn}
+use Rattle.grant.specs.Grants.{rightNumber, contractorIn}
 use Rattle.judging.specs.Judging.{inputTries, plainTries}
 use Rattle.checking.specs.Checking.{openedGrant, countNow}
 
@@ -24,9 +24,9 @@ callTries key rounds roll grant size-block right =
     inputTries (length key) rounds (eqb (length roll) rollLength && eqb (length grant) 12) right
     ++ plainTries (openedGrant key rounds grant) (countNow key rounds (rollOf roll) grant) size-block right
 
--- what it answers: the first reason's number, or 1,000 times the grant's right plus its contractor
+-- what it answers: the first reason's number, or 1,000 times the right that was asked for plus the grant's contractor
 unfoldable pub callCode : List ℕ → ℕ → List ℕ → List ℕ → ℕ → ℕ → ℕ
 callCode key rounds roll grant size-block right =
     answered (first (callTries key rounds roll grant size-block right))
-    (1000 * rightIn (openedGrant key rounds grant) + contractorIn (openedGrant key rounds grant))
+    (1000 * right + contractorIn (openedGrant key rounds grant))
     (first (callTries key rounds roll grant size-block right))

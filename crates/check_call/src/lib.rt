@@ -40,7 +40,7 @@ fn are_lengths(roll: usize, grant: usize) -> bool
     basics::both(roll == roll_bytes::ROLL_BYTES, grant == 12)
 }
 
-// Checks a grant for one size block and one right: the refusal number, or 1,000 times the right plus the contractor.
+// Checks a grant for one size block and one right: the refusal number, or 1,000 times that right plus the contractor.
 pub fn check(key: &[u8], rounds: u32, roll: &[u8], grant: &[u8], size_block: u32, right: u32) -> u32
     ensures { λ r. ⌜ r ≡ callCode (now (key .entry)) rounds (now (roll .entry)) (now (grant .entry)) «size_block» right ⌝ }
 {

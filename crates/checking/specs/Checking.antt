@@ -9,7 +9,7 @@ use Rattle.key_lists.specs.declared.Direction.the-variants.{Deciphering}
 use Rattle.cipher.specs.Cipher.{cipherBlock}
 use Rattle.roll.specs.declared.Roll.{Roll}
 use Rattle.roll.specs.Roll.{countOf}
-use Rattle.grant.specs.Grants.{contractorIn, rightIn}
+use Rattle.grant.specs.Grants.{contractorIn}
 use Rattle.judging.specs.Judging.{inputTries, plainTries}
 
 -- the plain bytes of a grant
@@ -28,11 +28,11 @@ checkTries key rounds roll grant size-block right =
 abbrev pub checkNumber : List ℕ → ℕ → Roll → List ℕ → ℕ → ℕ → ℕ
 checkNumber key rounds roll grant size-block right = first (checkTries key rounds roll grant size-block right)
 
--- an accepted check answers with contractor and right
+-- an accepted check answers with the contractor whom the grant names, and the right that was asked for
 unfoldable pub checkContractor : List ℕ → ℕ → Roll → List ℕ → ℕ → ℕ → ℕ
 checkContractor key rounds roll grant size-block right =
     answered (checkNumber key rounds roll grant size-block right) (contractorIn (openedGrant key rounds grant)) 0
 
 unfoldable pub checkRight : List ℕ → ℕ → Roll → List ℕ → ℕ → ℕ → ℕ
 checkRight key rounds roll grant size-block right =
-    answered (checkNumber key rounds roll grant size-block right) (rightIn (openedGrant key rounds grant)) 0
+    answered (checkNumber key rounds roll grant size-block right) right 0

@@ -1,2 +1,3 @@
+pub mod Rights
 pub mod Tests
 pub mod KnownAnswers

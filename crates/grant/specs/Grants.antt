@@ -21,6 +21,11 @@ rightNumber Overwriting = 2
 abbrev pub isRight : ℕ → Bool
 isRight r = eqb r 1 || eqb r 2
 
+-- what a grant's right covers, the one asked for being the second number: reading is covered by both, overwriting by overwriting alone. What is
+-- no right covers nothing and is covered by nothing
+unfoldable pub covers : ℕ → ℕ → Bool
+covers granted asked = (eqb asked 1 && isRight granted) || (eqb asked 2 && eqb granted 2)
+
 -- ---- plain bytes, numbers big end first
 -- 2 contractor, 2 count, 4 size block number, 1 right, then 47 52 44
 unfoldable pub plainGrant : ℕ → ℕ → ℕ → ℕ → List ℕ
@@ -53,7 +58,7 @@ abbrev pub verdictNumber : Verdict → ℕ
 verdictNumber (Opens g) = 0
 verdictNumber (Refused r) = reasonNumber r
 
--- the contractor and the right of a grant that opens; 0 where it does not
+-- where the grant opens, its contractor and the right that was asked for; 0 where it does not
 abbrev pub verdictContractor : Verdict → ℕ
 verdictContractor (Opens g) = g .contractor
 verdictContractor (Refused r) = 0

@@ -2,7 +2,7 @@
 
 ghost use mathlib.Core.Path.{_≡_};
 ghost use mathlib.Core.Bool.{true};
-ghost use Rattle.grant.specs.Grants.{rightNumber, isRight, plainGrant, contractorIn, countIn, sizeBlockIn, rightIn, isMarked, isGrant};
+ghost use Rattle.grant.specs.Grants.{rightNumber, isRight, covers, plainGrant, contractorIn, countIn, sizeBlockIn, rightIn, isMarked, isGrant};
 use crate::Right;
 use basics::both;
 use basics::either;
@@ -11,6 +11,16 @@ pub fn is_right(r: u32) -> bool
     ensures { λ b. ⌜ b ≡ isRight r ⌝ }
 {
     either(r == 1, r == 2)
+}
+
+// Whether a grant's right covers the one asked for.
+pub fn covers(granted: u32, asked: u32) -> bool
+    ensures { λ b. ⌜ b ≡ covers granted asked ⌝ }
+{
+    either(
+        both(asked == 1, is_right(granted)),
+        both(asked == 2, granted == 2),
+    )
 }
 
 pub fn right_of(r: u32) -> Right

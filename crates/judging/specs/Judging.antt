@@ -1,23 +1,24 @@
 -- What is tried of a grant that is checked, asked for one size block and one right: the parts of document 01's order line
--- "check 1, 2, 3, 7, 8, 9, 10, 20, 23". What is tried of the input comes first; the plain bytes are there once the grant is deciphered.
+-- "check 1, 2, 3, 7, 8, 9, 10, 20, 23", with 10 as request 1 has it. What is tried of the input comes first; the plain bytes are there once the
+-- grant is deciphered.
 use mathlib.Core.Bool.{Bool}
 use mathlib.Core.List.{List, [], _∷_, _++_}
 use Prim.Native.Nat.{ℕ}
 use lib.Dec.{eqb}
-use Rattle.refusal.specs.Tries.{Try, _unless_}
+use Rattle.refusal.specs.Tries.{Try, _unless_, first, answered}
 use Rattle.settings.specs.Settings.{settingsTries}
 use Rattle.roll.specs.Roll.{inStanding}
-use Rattle.grant.specs.Grants.{isRight, countIn, sizeBlockIn, rightIn, isGrant}
+use Rattle.grant.specs.Grants.{isRight, covers, contractorIn, countIn, sizeBlockIn, rightIn, isGrant}
 
 -- settings, for a key of n bytes; whether what was handed over has the right length; and the right: 1, 2, 3 and 7
 abbrev pub inputTries : ℕ → ℕ → Bool → ℕ → List Try
 inputTries n rounds lengths right = settingsTries n rounds ++ ((3 unless lengths) ∷ (7 unless isRight right) ∷ [])
 
--- what was asked for, against the plain bytes p: 9 and 10
+-- what was asked for, against the plain bytes p: 9; and 10, which, since 7 and 8 come first, is where overwriting is asked of a reading grant
 abbrev pub askedTries : List ℕ → ℕ → ℕ → List Try
 askedTries p size-block right =
     (9 unless eqb (sizeBlockIn p) size-block)
-    ∷ (10 unless eqb (rightIn p) right)
+    ∷ (10 unless covers (rightIn p) right)
     ∷ []
 
 -- the contractor's standing, where the count is this, against the one written in p: 20 and 23
@@ -30,3 +31,13 @@ standingTries p count =
 -- what is tried of the plain bytes p: 8, then 9 and 10, then 20 and 23
 abbrev pub plainTries : List ℕ → ℕ → ℕ → ℕ → List Try
 plainTries p count size-block right = (8 unless isGrant p) ∷ (askedTries p size-block right ++ standingTries p count)
+
+-- what is answered: the number of the first reason that holds, or 0; where none holds, the contractor whom p names and the right that was asked for
+abbrev pub judgedNumber : List ℕ → ℕ → ℕ → ℕ → ℕ
+judgedNumber p count size-block right = first (plainTries p count size-block right)
+
+abbrev pub judgedContractor : List ℕ → ℕ → ℕ → ℕ → ℕ
+judgedContractor p count size-block right = answered (judgedNumber p count size-block right) (contractorIn p) 0
+
+abbrev pub judgedRight : List ℕ → ℕ → ℕ → ℕ → ℕ
+judgedRight p count size-block right = answered (judgedNumber p count size-block right) right 0

@@ -1,17 +1,56 @@
--- Known answers for a grant's plain bytes as they are tried: the order of refusals where two reasons hold together. The two reasons and the
--- number given are the independent program's, and its line is the comment; the input is ours.
+-- Known answers for a grant's plain bytes: what is answered, as the independent program prints it (each comment begins its line); and the order of
+-- refusals where two reasons hold together, where the two reasons and the number given are that program's, and the input is ours.
 use mathlib.Core.List.{List, [], _∷_}
+use Prim.Native.Nat.{ℕ}
 use lib.ListN.{replicate}
-use Rattle.basics.specs.Cases.{Case, _is_}
+use Rattle.basics.specs.Cases.{Case, _is_, threes}
 use Rattle.refusal.specs.Tries.{first}
 use Rattle.roll.specs.Roll.{emptyRoll, countOf}
 use Rattle.grant.specs.KnownAnswers.{plain}
-use Rattle.judging.specs.Judging.{plainTries}
+use Rattle.judging.specs.Judging.{plainTries, judgedNumber, judgedContractor, judgedRight}
+
+-- grants to contractor 7 in standing 1, for size block 300: to overwrite, to read, and with what is no right
+abbrev pub toOverwrite : List ℕ
+toOverwrite = threes (0x000700 ∷ 0x010000 ∷ 0x012C02 ∷ 0x475244 ∷ [])
+
+abbrev pub toRead : List ℕ
+toRead = threes (0x000700 ∷ 0x010000 ∷ 0x012C01 ∷ 0x475244 ∷ [])
+
+abbrev pub withThree : List ℕ
+withThree = threes (0x000700 ∷ 0x010000 ∷ 0x012C03 ∷ 0x475244 ∷ [])
+
+abbrev pub withZero : List ℕ
+withZero = threes (0x000700 ∷ 0x010000 ∷ 0x012C00 ∷ 0x475244 ∷ [])
+
+-- number, contractor and right
+abbrev pub judgedOf : List ℕ → ℕ → ℕ → ℕ → List ℕ
+judgedOf p count size-block right =
+    judgedNumber p count size-block right ∷ judgedContractor p count size-block right ∷ judgedRight p count size-block right ∷ []
 
 unfoldable pub knownAnswers : List Case
 knownAnswers =
+    -- judged 000700010000012c02475244 1 300 1
+    (judgedOf toOverwrite 1 300 1 is (0 ∷ 7 ∷ 1 ∷ []))
+    -- judged 000700010000012c02475244 1 300 2
+    ∷ (judgedOf toOverwrite 1 300 2 is (0 ∷ 7 ∷ 2 ∷ []))
+    -- judged 000700010000012c01475244 1 300 1
+    ∷ (judgedOf toRead 1 300 1 is (0 ∷ 7 ∷ 1 ∷ []))
+    -- judged 000700010000012c01475244 1 300 2
+    ∷ (judgedOf toRead 1 300 2 is (10 ∷ 0 ∷ 0 ∷ []))
+    -- judged 000700010000012c02475244 1 301 1
+    ∷ (judgedOf toOverwrite 1 301 1 is (9 ∷ 0 ∷ 0 ∷ []))
+    -- judged 000700010000012c02475244 2 300 1
+    ∷ (judgedOf toOverwrite 2 300 1 is (20 ∷ 0 ∷ 0 ∷ []))
+    -- judged 000700010000012c02475244 3 300 1
+    ∷ (judgedOf toOverwrite 3 300 1 is (23 ∷ 0 ∷ 0 ∷ []))
+    -- judged 000700010000012c03475244 1 300 1
+    ∷ (judgedOf withThree 1 300 1 is (8 ∷ 0 ∷ 0 ∷ []))
+    -- judged 000700010000012c03475244 1 300 2
+    ∷ (judgedOf withThree 1 300 2 is (8 ∷ 0 ∷ 0 ∷ []))
+    -- judged 000700010000012c00475244 1 300 1
+    ∷ (judgedOf withZero 1 300 1 is (8 ∷ 0 ∷ 0 ∷ []))
     -- order check 8 9
-    ((first (plainTries (replicate 12 0) (countOf emptyRoll 0) 300 2) ∷ []) is (8 ∷ []))
+    ∷ ((first (plainTries (replicate 12 0) (countOf emptyRoll 0) 300 2) ∷ []) is (8 ∷ []))
     -- order check 9 10
     ∷ ((first (plainTries plain (countOf emptyRoll 200) 300 2) ∷ []) is (9 ∷ []))
     -- order check 10 20

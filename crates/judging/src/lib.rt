@@ -3,13 +3,14 @@
 
 ghost use mathlib.Core.Path.{_≡_};
 ghost use Rattle.refusal.specs.Reasons.{outcomeNumber};
-ghost use Rattle.refusal.specs.Tries.{first, after, answered};
-ghost use Rattle.grant.specs.Grants.{contractorIn, rightIn, verdictNumber, verdictContractor, verdictRight};
-ghost use Rattle.judging.specs.Judging.{inputTries, askedTries, standingTries, plainTries};
+ghost use Rattle.refusal.specs.Tries.{first, after};
+ghost use Rattle.grant.specs.Grants.{verdictNumber, verdictContractor, verdictRight};
+ghost use Rattle.judging.specs.Judging.{inputTries, askedTries, standingTries, judgedNumber, judgedContractor, judgedRight};
 use grant::Grant;
 use grant::Verdict;
 use grant::contractor_in;
 use grant::count_in;
+use grant::covers;
 use grant::is_grant;
 use grant::is_right;
 use grant::right_in;
@@ -28,12 +29,12 @@ pub fn try_input(n: usize, rounds: u32, lengths: bool, right: u32) -> Outcome
     unless(whole, Reason::UnknownRight, is_right(right))
 }
 
-// What was asked for: the size block, then the right.
+// What was asked for: the size block, then a right that the grant's covers.
 pub fn try_asked(prior: Outcome, p: &[u8; 12], size_block: u32, right: u32) -> Outcome
     ensures { λ r. ⌜ outcomeNumber r ≡ after (outcomeNumber prior) (askedTries (now (p .entry)) «size_block» right) ⌝ }
 {
     let block = unless(prior, Reason::OtherBlock, size_block_in(p) == size_block);
-    unless(block, Reason::OtherRight, right_in(p) == right)
+    unless(block, Reason::OtherRight, covers(right_in(p), right))
 }
 
 // The contractor's standing, then that it is the one written in the grant.
@@ -46,10 +47,9 @@ pub fn try_standing(prior: Outcome, p: &[u8; 12], count: u16) -> Outcome
 
 // The verdict on a grant's plain bytes, where the roll has this count for its contractor.
 pub fn judge(p: &[u8; 12], count: u16, size_block: u32, right: u32) -> Verdict
-    ensures { λ r. ⌜ verdictNumber r ≡ first (plainTries (now (p .entry)) count «size_block» right) ⌝ }
-    ensures { λ r. ⌜ verdictContractor r ≡ answered (first (plainTries (now (p .entry)) count «size_block» right))
-        (contractorIn (now (p .entry))) 0 ⌝ }
-    ensures { λ r. ⌜ verdictRight r ≡ answered (first (plainTries (now (p .entry)) count «size_block» right)) (rightIn (now (p .entry))) 0 ⌝ }
+    ensures { λ r. ⌜ verdictNumber r ≡ judgedNumber (now (p .entry)) count «size_block» right ⌝ }
+    ensures { λ r. ⌜ verdictContractor r ≡ judgedContractor (now (p .entry)) count «size_block» right ⌝ }
+    ensures { λ r. ⌜ verdictRight r ≡ judgedRight (now (p .entry)) count «size_block» right ⌝ }
 {
     let whole = unless(Outcome::Done, Reason::NotAGrant, is_grant(p));
     let asked = try_asked(whole, p, size_block, right);

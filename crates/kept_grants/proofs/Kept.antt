@@ -51,19 +51,19 @@ unfolding after-to
 after-all calls i e roll = ap (λ (l : List ℕ). bytesAfter (changesFrom l) roll) (take-all i calls (omega (arith, e)))
 
 -- ---- the answer to a grant that was kept
-module _ (key : List ℕ) (rounds : ℕ) (roll : List ℕ) (contractor block right : ℕ) (calls : List ℕ) (asked access : ℕ) (out : List ℕ) where
+module _ (key : List ℕ) (rounds : ℕ) (roll : List ℕ) (contractor block right : ℕ) (calls : List ℕ) (asked-block asked-right : ℕ) (out : List ℕ) where
   -- what the function promises of its answer and of the roll
   abbrev pub Kept : ℕ → List ℕ → Type 0
   Kept code after =
       Revoked key rounds roll contractor block right calls out code
-      × ((code ≡ keptCode key rounds roll contractor block right calls asked access out)
+      × ((code ≡ keptCode key rounds roll contractor block right calls asked-block asked-right out)
       × (after ≡ keptRoll key rounds roll contractor block right calls out))
 
   ts : List Try
   ts = issueCallTries key rounds roll contractor block right out
 
   given : ℕ
-  given = callCode key rounds (bytesAfter (changesFrom calls) roll) (grantGiven key rounds roll contractor block right out) asked access
+  given = callCode key rounds (bytesAfter (changesFrom calls) roll) (grantGiven key rounds roll contractor block right out) asked-block asked-right
 
   pub kept-refused : (n : ℕ) → n ≡ issueCallNumber key rounds roll contractor block right out → (n ≡ 0 → ⊥) → Kept n roll
   unfolding keptCode keptRoll ts given
@@ -79,15 +79,15 @@ module _ (key : List ℕ) (rounds : ℕ) (roll : List ℕ) (contractor block rig
   pub kept-checked : issueCallNumber key rounds roll contractor block right out ≡ 0 → AreBytes key → AreBytes roll → block < 4294967296
       → (w : List ℕ) → w ≡ issueCallOutput key rounds roll contractor block right out
       → (after : List ℕ) → after ≡ bytesAfter (changesFrom calls) roll
-      → (code : ℕ) → code ≡ callCode key rounds after (take 12 w) asked access → Kept code after
+      → (code : ℕ) → code ≡ callCode key rounds after (take 12 w) asked-block asked-right → Kept code after
   unfolding keptCode keptRoll ts given CallsRevoke
   kept-checked e hk hr few w ew after ea code ec =
       let i : CallIssued key rounds roll contractor block right out = record { key-bytes = hk; roll-bytes = hr; block-small = few; number = e } in
-      let g : code ≡ given = ec ∙ (λ j. callCode key rounds (ea j) (take 12 (ew j)) asked access) in (
+      let g : code ≡ given = ec ∙ (λ j. callCode key rounds (ea j) (take 12 (ew j)) asked-block asked-right) in (
         record {
           refused = λ z h.
               subst⁻¹ (λ (n : ℕ). (1 ≤ n) × (n ≤ 999)) g
-              (calls-revoke key rounds roll contractor block right out i (changesFrom calls) h asked access);
+              (calls-revoke key rounds roll contractor block right out i (changesFrom calls) h asked-block asked-right);
         },
         (
           g ∙ answer-done ts given (issueCallNumber key rounds roll contractor block right out) e,

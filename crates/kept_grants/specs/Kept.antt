@@ -27,9 +27,9 @@ pub record Revoked (key : List ℕ) (rounds : ℕ) (roll : List ℕ) (contractor
 
 -- the answer itself: the number of the refusal to issue, or what gordzila_check says of the grant on the roll that the calls left
 unfoldable pub keptCode : List ℕ → ℕ → List ℕ → ℕ → ℕ → ℕ → List ℕ → ℕ → ℕ → List ℕ → ℕ
-keptCode key rounds roll contractor block right calls asked access out =
+keptCode key rounds roll contractor block right calls asked-block asked-right out =
     answered (issueCallNumber key rounds roll contractor block right out)
-    (callCode key rounds (bytesAfter (changesFrom calls) roll) (grantGiven key rounds roll contractor block right out) asked access)
+    (callCode key rounds (bytesAfter (changesFrom calls) roll) (grantGiven key rounds roll contractor block right out) asked-block asked-right)
     (issueCallNumber key rounds roll contractor block right out)
 
 -- and the roll: as it was where the issue was refused, else as the calls left it

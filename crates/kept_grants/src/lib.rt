@@ -37,13 +37,13 @@ pub fn call_issue_change_check(
     size_block: u32,
     right: u32,
     calls: &[u32],
-    asked: u32,
-    access: u32,
+    asked_block: u32,
+    asked_right: u32,
     out: &mut [u8],
 ) -> u32
     ensures { λ r. ⌜ Revoked (now (key .entry)) rounds (now (roll .entry)) contractor «size_block» right (now (calls .entry)) (now (out .entry)) r ⌝ }
-    ensures { λ r. ⌜ r ≡ keptCode (now (key .entry)) rounds (now (roll .entry)) contractor «size_block» right (now (calls .entry)) asked access
-        (now (out .entry)) ⌝ }
+    ensures { λ r. ⌜ r ≡ keptCode (now (key .entry)) rounds (now (roll .entry)) contractor «size_block» right (now (calls .entry))
+        «asked_block» «asked_right» (now (out .entry)) ⌝ }
     ensures { λ _. ⌜ now (roll .exit) ≡ keptRoll (now (key .entry)) rounds (now (roll .entry)) contractor «size_block» right (now (calls .entry))
         (now (out .entry)) ⌝ }
     ensures { λ _. ⌜ now (out .exit) ≡ issueCallOutput (now (key .entry)) rounds (now (roll .entry)) contractor «size_block» right
@@ -54,5 +54,5 @@ pub fn call_issue_change_check(
         return number;
     }
     call_changes(roll, calls);
-    capi::gordzila_check(key, rounds, roll, &out[..12], asked, access)
+    capi::gordzila_check(key, rounds, roll, &out[..12], asked_block, asked_right)
 }

@@ -1,4 +1,4 @@
--- The numbers of the reasons: document 01, "Reasons found in the input" and "Reasons found in the state".
+-- The numbers of the reasons: document 01, "Reasons found in the input" and "Reasons found in the state"; 10 as request 1 has it.
 use Prim.Native.Nat.{ℕ}
 use Rattle.refusal.specs.declared.Reason.{Reason}
 use Rattle.refusal.specs.declared.Reason.the-variants.{KeyLength, RoundCount, InputLength, OutputTooShort, StageOrList, Contractor, UnknownRight}
@@ -26,7 +26,7 @@ reasonNumber UnknownRight = 7
 reasonNumber NotAGrant = 8
 -- grant for another size block
 reasonNumber OtherBlock = 9
--- grant for another right
+-- overwriting asked of a reading grant. The name is that of the rule before request 1
 reasonNumber OtherRight = 10
 -- contractor not in standing
 reasonNumber NotInStanding = 20

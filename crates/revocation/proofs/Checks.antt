@@ -1,11 +1,9 @@
 -- When a check is accepted.
-use mathlib.Core.Path.{_≡_, refl, sym, ap, ap₂, _∙_}
-use mathlib.Core.Logic.{_⊎_, inl, inr}
-use mathlib.Core.Bool.{Bool, true, false, _||_}
+use mathlib.Core.Path.{_≡_, refl, sym, ap, _∙_}
+use mathlib.Core.Bool.{true}
 use mathlib.Core.List.{List}
 use Prim.Native.Nat.{ℕ, _≤_, _<_}
 use native.Mathlib.Omega.{arith}
-use lib.Dec.{eqb}
 use lib.ListN.{length}
 use borrow.Author.Tests.{eqb-true, eq-eqb}
 use Rattle.refusal.specs.Tries.{NoneHolds}
@@ -24,8 +22,9 @@ use Rattle.cipher.specs.Cipher.{cipherBlock}
 use Rattle.roll.specs.declared.Roll.{Roll}
 use Rattle.roll.specs.Roll.{isContractor, countOf, inStanding}
 use Rattle.roll.proofs.Contractors.{a-contractor, is-contractor, a-standing, is-standing}
-use Rattle.grant.specs.Grants.{isRight, plainGrant, contractorIn, countIn, sizeBlockIn, rightIn, isMarked, isGrant}
+use Rattle.grant.specs.Grants.{isRight, covers, plainGrant, contractorIn, countIn, sizeBlockIn, rightIn, isMarked, isGrant}
 use Rattle.checking.specs.Checking.{openedGrant, checkTries, checkNumber, checkContractor, checkRight}
+use Rattle.grant.proofs.Rights.{one-or-two, is-right, covering-right}
 use Rattle.grant.proofs.Tests.{a-grant, is-grant}
 use Rattle.revocation.specs.Claims.{Opening, Accepted}
 use Rattle.revocation.proofs.Bytes.{reads-contractor, reads-count, reads-block, reads-right, reads-mark, written-again, state-bytes-small}
@@ -40,17 +39,6 @@ opened-bytes : (key : List ℕ) → AreBytes key → (rounds : ℕ) (grant : Lis
 unfolding openedGrant cipherBlock
 opened-bytes key hk rounds grant hg k =
     state-bytes-small (enciphered-state (listFor Deciphering key rounds) (stateOf grant) (states-for key k hk Deciphering rounds) (block-state grant hg))
-
--- ---- rights
-pub one-or-two : (r : ℕ) → isRight r ≡ true → (r ≡ 1) ⊎ (r ≡ 2)
-one-or-two r e = by (eqb r 1) (eqb r 2) refl refl e
-  where
-    by : (a b : Bool) → eqb r 1 ≡ a → eqb r 2 ≡ b → (a || b) ≡ true → (r ≡ 1) ⊎ (r ≡ 2)
-    by true b p q e = inl (eqb-true r 1 p)
-    by false b p q e = inr (eqb-true r 2 (q ∙ e))
-
-pub is-right : (r : ℕ) → (r ≡ 1) ⊎ (r ≡ 2) → isRight r ≡ true
-is-right r h = elim h [ inl e ↦ ap isRight e | inr e ↦ ap isRight e ]
 
 -- ---- what an accepted check passed
 module _ (key : List ℕ) (rounds : ℕ) (roll : Roll) (grant : List ℕ) (block right : ℕ) where
@@ -71,7 +59,6 @@ module _ (key : List ℕ) (rounds : ℕ) (roll : Roll) (grant : List ℕ) (block
       let t = h .1 .1 .1 .1 in
       let g = a-grant p (t .0) in
       let eb = eqb-true (sizeBlockIn p) block (t .1 .0) in
-      let er = eqb-true (rightIn p) right (t .1 .1 .0) in
       let s = a-standing (countOf roll (contractorIn p)) (t .1 .1 .1 .0) in
       let ec = eqb-true (countIn p) (countOf roll (contractorIn p)) (t .1 .1 .1 .1 .0) in
       let c = a-contractor (contractorIn p) (g .contractor) in
@@ -83,7 +70,9 @@ module _ (key : List ℕ) (rounds : ℕ) (roll : Roll) (grant : List ℕ) (block
         asked = one-or-two right q;
         contractor = contractorIn p;
         count = countIn p;
-        plain = sym again ∙ ap₂ (plainGrant (contractorIn p) (countIn p)) eb er;
+        granted = rightIn p;
+        covered = t .1 .1 .0;
+        plain = sym again ∙ ap (λ (b : ℕ). plainGrant (contractorIn p) (countIn p) b (rightIn p)) eb;
         least = c .least;
         most = c .most;
         on-roll = sym ec;
@@ -123,7 +112,9 @@ accepted key rounds roll grant block right few o =
     let q = is-right right (o .asked) in
     let small : n < 65536 = omega (arith, o .below) in
     let p = openedGrant key rounds grant in
-    let m = named p c n block right (o .plain) (o .least) (o .most) small few q in
+    let granted = covering-right (o .granted) right (o .covered) in
+    let m = named p c n block (o .granted) (o .plain) (o .least) (o .most) small few granted in
+    let covered : covers (rightIn p) right ≡ true = ap (λ (g : ℕ). covers g right) (m .right) ∙ o .covered in
     let s : countOf roll (contractorIn p) ≡ n = ap (countOf roll) (m .contractor) ∙ o .on-roll in
     let stands = is-standing n record { odd = o .odd; below = o .below } in
     let e = none-given (checkTries key rounds roll grant block right) (
@@ -136,7 +127,7 @@ accepted key rounds roll grant block right few o =
             q,
             (
               m .grant,
-              (eq-eqb _ block (m .block), (eq-eqb _ right (m .right), (ap inStanding s ∙ stands, (eq-eqb _ _ (m .count ∙ sym s), tt)))),
+              (eq-eqb _ block (m .block), (covered, (ap inStanding s ∙ stands, (eq-eqb _ _ (m .count ∙ sym s), tt)))),
             ),
           ),
         ),
@@ -145,5 +136,5 @@ accepted key rounds roll grant block right few o =
     record {
       number = e;
       answers-contractor = sym (answer-done (checkTries key rounds roll grant block right) (contractorIn p) 0 e) ∙ m .contractor;
-      answers-right = sym (answer-done (checkTries key rounds roll grant block right) (rightIn p) 0 e) ∙ m .right;
+      answers-right = sym (answer-done (checkTries key rounds roll grant block right) right 0 e);
     }

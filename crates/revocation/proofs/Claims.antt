@@ -1,19 +1,26 @@
 -- A term of each type of specs/Claims.antt.
-use mathlib.Core.Path.{refl}
+use mathlib.Core.Path.{_≡_, refl}
+use mathlib.Core.Bool.{true}
+use Prim.Native.Nat.{ℕ}
+use lib.ListN.{length, replicate}
 use Rattle.refusal.specs.Tries.{first, answered}
 use Rattle.roll.specs.Roll.{emptyRoll, countOf, inStanding, counted}
 use Rattle.roll_changes.specs.Changes.{enterTries, enteredRoll, withdrawTries}
 use Rattle.histories.specs.Histories.{enter, changed, here, IsRoll}
 use Rattle.histories.proofs.Counts.{zeros-small, changed-roll, empty-roll, left-seen, right-seen}
 use mathlib.Core.Logic.{inl, inr}
-use lib.Dec.{lit<}
+use lib.Dec.{eqb, lit<}
+use Rattle.refusal.proofs.Tries.{none-given}
 use Rattle.refusal.proofs.Ladder.{ordered}
+use Rattle.grant.specs.Grants.{isRight}
 use Rattle.issuing.specs.Issuing.{issueTries}
-use Rattle.checking.specs.Checking.{checkTries}
-use Rattle.revocation.specs.Claims.{OpensExactlyWhen, EachRefusalFirst, IssuedOpens, RevokedNeverOpens, RevokedInTwoRooms}
-use Rattle.revocation.specs.Claims.{RevocationHappens, OthersUndisturbed, NumbersTellVerdicts}
+use Rattle.checking.specs.Checking.{countNow, checkTries}
+use Rattle.revocation.specs.Claims.{Issued, OpensExactlyWhen, EachRefusalFirst, IssuedOpens, OverwritingOpensReading, ReadingDoesNotOverwrite}
+use Rattle.revocation.specs.Claims.{OnlyOverwritingOverwrites, TenOnlyForOverwriting, RevokedNeverOpens, RevokedInTwoRooms, RevocationHappens}
+use Rattle.revocation.specs.Claims.{OthersUndisturbed, NumbersTellVerdicts}
 use Rattle.revocation.proofs.Checks.{opening, accepted}
 use Rattle.revocation.proofs.Issued.{checks, revoked, revoked-asked}
+use Rattle.revocation.proofs.Looks.{looks, overwrites, ten}
 use Rattle.revocation.proofs.Others.{same-check, verdicts-told}
 
 pub opens-exactly-when : OpensExactlyWhen
@@ -34,6 +41,36 @@ pub issued-opens : IssuedOpens
 unfolding IssuedOpens
 issued-opens = checks
 
+-- contractor 7, entered on an empty roll, gets a grant with either right
+issued-7 : (right : ℕ) → isRight right ≡ true → Issued (replicate 12 0) 10 (enteredRoll emptyRoll 7) 7 300 right (replicate 12 0)
+unfolding first answered emptyRoll countOf inStanding counted enteredRoll
+issued-7 right q =
+    let tries = issueTries (replicate 12 0) 10 (enteredRoll emptyRoll 7) 7 300 right (replicate 12 0) in
+    record {
+      key-bytes = zeros-small (lit< tt) 12;
+      block-small = lit< tt;
+      number = none-given tries (refl, (refl, (refl, (refl, (q, (refl, tt))))));
+    }
+
+pub overwriting-opens-reading : OverwritingOpensReading
+unfolding OverwritingOpensReading
+overwriting-opens-reading = looks
+
+pub reading-does-not-overwrite : ReadingDoesNotOverwrite
+unfolding ReadingDoesNotOverwrite
+reading-does-not-overwrite =
+    let c = checks (replicate 12 0) 10 (enteredRoll emptyRoll 7) 7 300 1 (replicate 12 0) (issued-7 1 refl) in
+    (c .opens, c .only-reads refl)
+
+pub only-overwriting-overwrites : OnlyOverwritingOverwrites
+unfolding OnlyOverwritingOverwrites
+only-overwriting-overwrites = overwrites
+
+pub ten-only-for-overwriting : TenOnlyForOverwriting
+unfolding TenOnlyForOverwriting
+ten-only-for-overwriting key rounds roll grant block right e =
+    ten key rounds (eqb (length grant) 12) grant (countNow key rounds roll grant) block right e
+
 pub revoked-never-opens : RevokedNeverOpens
 unfolding RevokedNeverOpens
 revoked-never-opens = revoked
@@ -49,7 +86,7 @@ entered-7 = changed-roll (enter 7) emptyRoll empty-roll
 
 pub revocation-happens : RevocationHappens
 unfolding RevocationHappens first answered emptyRoll countOf inStanding counted enteredRoll
-revocation-happens = ((record { key-bytes = zeros-small (lit< tt) 12; block-small = lit< tt; number = refl }, entered-7), here refl)
+revocation-happens = ((issued-7 2 refl, entered-7), here refl)
 
 pub others-undisturbed : OthersUndisturbed
 unfolding OthersUndisturbed

@@ -1,14 +1,14 @@
 -- Issued grants: what they decipher to, that they open, and that none opens after its contractor's withdrawal.
 use mathlib.Core.Path.{_≡_, refl, sym, ap, _∙_}
-use mathlib.Core.Bool.{true}
-use mathlib.Core.List.{List}
+use mathlib.Core.Bool.{true, false}
+use mathlib.Core.List.{List, _++_}
 use Prim.Native.Nat.{ℕ, zero, suc, _<_}
 use native.Mathlib.Omega.{arith}
-use lib.Dec.{lit<}
+use lib.Dec.{eqb, lit<}
 use lib.ListN.{length}
 use borrow.Author.Tests.{eqb-true, eq-eqb, ne-eqb}
-use Rattle.refusal.specs.Tries.{NoneHolds}
-use Rattle.refusal.proofs.Tries.{first-passes, first-holds}
+use Rattle.refusal.specs.Tries.{first, NoneHolds}
+use Rattle.refusal.proofs.Tries.{first-passes, first-holds, first-then}
 use Rattle.refusal.proofs.Ladder.{all-pass}
 use Rattle.basics.specs.Bytes.{AreBytes}
 use Rattle.cipher.specs.Cipher.{cipherBlock}
@@ -19,12 +19,13 @@ use Rattle.roll.specs.Roll.{countOf}
 use Rattle.roll.proofs.Contractors.{Contractor, a-contractor, a-standing}
 use Rattle.histories.specs.Histories.{Change, rollAfter, Withdrawn, Withdraws, IsRoll}
 use Rattle.histories.proofs.Counts.{counted-up, asked-counts}
-use Rattle.grant.specs.Grants.{isRight, plainGrant, contractorIn, countIn, sizeBlockIn, rightIn}
+use Rattle.grant.specs.Grants.{isRight, covers, plainGrant, contractorIn, countIn, sizeBlockIn}
 use Rattle.issuing.specs.Issuing.{issueTries, issuedGrant}
-use Rattle.checking.specs.Checking.{openedGrant}
-use Rattle.grant.proofs.Tests.{right-small}
-use Rattle.revocation.specs.Claims.{Opening, Issued, Checks, OpensNothing}
-use Rattle.revocation.proofs.Checks.{one-or-two, passed, Named, named, accepted}
+use Rattle.judging.specs.Judging.{inputTries, askedTries, standingTries, plainTries}
+use Rattle.checking.specs.Checking.{openedGrant, countNow, checkNumber}
+use Rattle.grant.proofs.Rights.{one-or-two, right-small, covered-right, covers-itself}
+use Rattle.revocation.specs.Claims.{Opening, Accepted, Issued, Checks, OpensNothing}
+use Rattle.revocation.proofs.Checks.{passed, Named, named, accepted}
 
 -- ---- plain bytes are bytes
 plain-bytes : (c n b r : ℕ) → r < 256 → AreBytes (plainGrant c n b r)
@@ -75,16 +76,19 @@ module _ (key : List ℕ) (rounds : ℕ) (roll : Roll) (contractor block right :
       record { bytes = i .key-bytes; length-allowed = allowed .0; rounds-allowed = allowed .1 .0 }
       record { bytes = plain-bytes contractor n block right (omega arith); twelve = plain-twelve contractor n block right }
 
-  opening : Opening key rounds roll (issuedGrant key rounds roll contractor block right) block right
-  opening =
+  -- the grant opens for what its right covers
+  opening : (r : ℕ) → covers right r ≡ true → Opening key rounds roll (issuedGrant key rounds roll contractor block right) block r
+  opening r covered =
       let s = a-standing (countOf roll contractor) (allowed .1 .1 .1 .1 .1 .0) in
       record {
         key-length = allowed .0;
         round-count = allowed .1 .0;
         twelve = issued-twelve key rounds roll contractor block right;
-        asked = one-or-two right asked;
+        asked = one-or-two r (covered-right right r covered);
         contractor = contractor;
         count = countOf roll contractor;
+        granted = right;
+        covered = covered;
         plain = deciphered;
         least = number-of .least;
         most = number-of .most;
@@ -93,37 +97,52 @@ module _ (key : List ℕ) (rounds : ℕ) (roll : Roll) (contractor block right :
         below = s .below;
       }
 
-  g : List ℕ
+  abbrev g : List ℕ
   g = issuedGrant key rounds roll contractor block right
 
+  abbrev p : List ℕ
+  p = openedGrant key rounds g
+
   -- what the issued grant names
-  names : Named (openedGrant key rounds (issuedGrant key rounds roll contractor block right)) contractor (countOf roll contractor) block right
-  names = named _ contractor (countOf roll contractor) block right deciphered (number-of .least) (number-of .most) count-small (i .block-small) asked
+  names : Named p contractor (countOf roll contractor) block right
+  names = named p contractor (countOf roll contractor) block right deciphered (number-of .least) (number-of .most) count-small (i .block-small) asked
+
+  -- its check, for any size block and either right, comes to what was asked for
+  comes-to-asked : (b r : ℕ) → isRight r ≡ true
+      → checkNumber key rounds roll g b r ≡ first (askedTries p b r ++ standingTries p (countNow key rounds roll g))
+  comes-to-asked b r q =
+      let l = eq-eqb (length g) 12 (issued-twelve key rounds roll contractor block right) in
+      first-then (inputTries (length key) rounds (eqb (length g) 12) r) (plainTries p (countNow key rounds roll g) b r)
+      (allowed .0, (allowed .1 .0, (l, (q, tt))))
+      ∙ first-passes _ _ (names .grant)
+
+  -- for a right that its own covers, and for one that it doesn't
+  pub issued-covered : (r : ℕ) → covers right r ≡ true → Accepted key rounds roll g block r contractor
+  unfolding opening
+  issued-covered r covered = accepted key rounds roll g block r (i .block-small) (opening r covered)
+
+  pub issued-not-covered : (r : ℕ) → isRight r ≡ true → covers right r ≡ false → checkNumber key rounds roll g block r ≡ 10
+  issued-not-covered r q uncovered =
+      comes-to-asked block r q ∙ first-passes _ _ (eq-eqb (sizeBlockIn p) block (names .block))
+      ∙ first-holds _ _ (ap (λ (n : ℕ). covers n r) (names .right) ∙ uncovered)
 
   pub checks : Checks key rounds roll contractor block right
-  unfolding g opening
+  unfolding covers
   checks =
-      let o = opening in
       let l = eq-eqb (length g) 12 (issued-twelve key rounds roll contractor block right) in
-      let w = names .grant in
       record {
-        opens = accepted key rounds roll g block right (i .block-small) o;
-        other-block = λ b d.
-            first-passes _ _ (allowed .0) ∙ first-passes _ _ (allowed .1 .0) ∙ first-passes _ _ l ∙ first-passes _ _ asked ∙ first-passes _ _ w
-            ∙ first-holds _ _ (ne-eqb (sizeBlockIn (openedGrant key rounds g)) b (λ e. d (sym e ∙ names .block)));
-        other-right = λ r q d.
-            first-passes _ _ (allowed .0) ∙ first-passes _ _ (allowed .1 .0) ∙ first-passes _ _ l ∙ first-passes _ _ q ∙ first-passes _ _ w
-            ∙ first-passes _ _ (eq-eqb (sizeBlockIn (openedGrant key rounds g)) block (names .block))
-            ∙ first-holds _ _ (ne-eqb (rightIn (openedGrant key rounds g)) r (λ e. d (sym e ∙ names .right)));
+        opens = issued-covered right (covers-itself right asked);
+        looks = λ e. issued-covered 1 (ap (λ (r : ℕ). covers r 1) e);
+        only-reads = λ e. issued-not-covered 2 refl (ap (λ (r : ℕ). covers r 2) e);
+        no-right = λ r q. first-passes _ _ (allowed .0) ∙ first-passes _ _ (allowed .1 .0) ∙ first-passes _ _ l ∙ first-holds _ _ q;
+        other-block = λ b r d q. comes-to-asked b r q ∙ first-holds _ _ (ne-eqb (sizeBlockIn p) b (λ e. d (sym e ∙ names .block)));
       }
 
   -- where the count has risen, the grant opens nothing
   risen : (later : Roll) → countOf roll contractor < countOf later contractor
       → OpensNothing key rounds later (issuedGrant key rounds roll contractor block right)
   risen later l b r e =
-      let g = issuedGrant key rounds roll contractor block right in
       let h = passed key rounds later g b r e in
-      let p = openedGrant key rounds g in
       let same = eqb-true (countIn p) (countOf later (contractorIn p)) (h .1 .1 .1 .1 .1 .1 .1 .1 .0) in
       let z : countOf roll contractor ≡ countOf later contractor = sym (names .count) ∙ same ∙ ap (countOf later) (names .contractor) in
       omega (arith, l)

@@ -16,7 +16,7 @@ use Rattle.grant.specs.declared.Right as right
 use Rattle.grant.specs.declared.Right.the-variants.{Reading, Overwriting}
 use Rattle.grant.specs.declared.Verdict.{Verdict}
 use Rattle.grant.specs.declared.Verdict.the-variants.{Opens, Refused}
-use Rattle.grant.specs.Grants.{rightNumber, contractorIn, rightIn, verdictNumber, verdictContractor, verdictRight}
+use Rattle.grant.specs.Grants.{rightNumber, contractorIn, verdictNumber, verdictContractor, verdictRight}
 use Rattle.judging.specs.Judging.{inputTries, plainTries}
 use Rattle.checking.specs.Checking.{openedGrant, checkNumber, checkContractor, checkRight}
 use Rattle.revocation.specs.Claims.{SameCheck}
@@ -34,7 +34,7 @@ module _ (key : List ℕ) (rounds : ℕ) (roll : Roll) (grant : List ℕ) (block
   same-check = record {
     number = same-number;
     answers-contractor = ap (λ (m : ℕ). answered m (contractorIn (openedGrant key rounds grant)) 0) same-number;
-    answers-right = ap (λ (m : ℕ). answered m (rightIn (openedGrant key rounds grant)) 0) same-number;
+    answers-right = ap (λ (m : ℕ). answered m asked 0) same-number;
   }
 
 -- ---- verdicts

@@ -1,6 +1,6 @@
--- What is claimed of grants: demand 2's second half; document 01, "Roll and grant", "Reasons" and the order lines. A term of each type stands
--- in proofs/Claims.antt.
-use mathlib.Core.Bool.{true}
+-- What is claimed of grants: demand 2's second half; document 01, "Roll and grant", "Reasons" and the order lines; request 1, "Looking before
+-- overwriting". A term of each type stands in proofs/Claims.antt.
+use mathlib.Core.Bool.{true, false}
 use mathlib.Core.Logic.{_⊎_}
 use mathlib.Core.Path.{_≡_}
 use mathlib.Core.List.{List, [], _∷_}
@@ -14,13 +14,13 @@ use Rattle.roll.specs.Roll.{emptyRoll, countOf}
 use Rattle.roll_changes.specs.Changes.{enterTries, enteredRoll, withdrawTries}
 use Rattle.histories.specs.Histories.{Change, withdraw, contractorOf, changed, rollAfter, Withdrawn, Withdraws, Merge, IsRoll}
 use Rattle.grant.specs.declared.Verdict.{Verdict}
-use Rattle.grant.specs.Grants.{isRight, plainGrant, contractorIn, verdictNumber, verdictContractor, verdictRight}
+use Rattle.grant.specs.Grants.{isRight, covers, plainGrant, contractorIn, rightIn, isGrant, verdictNumber, verdictContractor, verdictRight}
 use Rattle.issuing.specs.Issuing.{issueTries, issueNumber, issuedGrant}
 use Rattle.checking.specs.Checking.{openedGrant, checkTries, checkNumber, checkContractor, checkRight}
 
 -- ---- a grant opens exactly when
 -- none of the input reasons holds; the grant deciphers to the plain bytes of a grant to a contractor, 1 to 200, for that size block and
--- that right; and the roll has that contractor in standing, with the count that is written in it
+-- with a right that covers the one asked for; and the roll has that contractor in standing, with the count that is written in it
 pub record Opening (key : List ℕ) (rounds : ℕ) (roll : Roll) (grant : List ℕ) (block right : ℕ) : Type 0 where
   pub key-length : keyLength (length key) ≡ true
   pub round-count : roundsAllowed (length key) rounds ≡ true
@@ -28,14 +28,16 @@ pub record Opening (key : List ℕ) (rounds : ℕ) (roll : Roll) (grant : List �
   pub asked : (right ≡ 1) ⊎ (right ≡ 2)
   pub contractor : ℕ
   pub count : ℕ
-  pub plain : openedGrant key rounds grant ≡ plainGrant contractor count block right
+  pub granted : ℕ
+  pub covered : covers granted right ≡ true
+  pub plain : openedGrant key rounds grant ≡ plainGrant contractor count block granted
   pub least : 1 ≤ contractor
   pub most : contractor ≤ 200
   pub on-roll : countOf roll contractor ≡ count
   pub odd : count % 2 ≡ 1
   pub below : count < 65535
 
--- a check that is not refused, with the contractor and the right that it answers
+-- a check that is not refused: it answers with this contractor, and with the right that was asked for
 pub record Accepted (key : List ℕ) (rounds : ℕ) (roll : Roll) (grant : List ℕ) (block right contractor : ℕ) : Type 0 where
   pub number : checkNumber key rounds roll grant block right ≡ 0
   pub answers-contractor : checkContractor key rounds roll grant block right ≡ contractor
@@ -65,17 +67,48 @@ pub record Issued (key : List ℕ) (rounds : ℕ) (roll : Roll) (contractor bloc
   pub block-small : block < 4294967296
   pub number : issueNumber key rounds roll contractor block right out ≡ 0
 
--- on the same roll the grant opens for its block and right, with its contractor and right; for another block it is refused with 9, and
--- for the other right with 10
+-- on the same roll the grant opens for its block and right; a grant to overwrite opens for reading too, answering reading, and one to read is refused
+-- with 10 for overwriting. Otherwise it is as it was: for what is no right 7, and for another block 9, with either right
 pub record Checks (key : List ℕ) (rounds : ℕ) (roll : Roll) (contractor block right : ℕ) : Type 0 where
   pub opens : Accepted key rounds roll (issuedGrant key rounds roll contractor block right) block right contractor
-  pub other-block : (b : ℕ) → (b ≡ block → ⊥) → checkNumber key rounds roll (issuedGrant key rounds roll contractor block right) b right ≡ 9
-  pub other-right : (r : ℕ) → isRight r ≡ true → (r ≡ right → ⊥)
-      → checkNumber key rounds roll (issuedGrant key rounds roll contractor block right) block r ≡ 10
+  pub looks : right ≡ 2 → Accepted key rounds roll (issuedGrant key rounds roll contractor block right) block 1 contractor
+  pub only-reads : right ≡ 1 → checkNumber key rounds roll (issuedGrant key rounds roll contractor block right) block 2 ≡ 10
+  pub no-right : (asked : ℕ) → isRight asked ≡ false
+      → checkNumber key rounds roll (issuedGrant key rounds roll contractor block right) block asked ≡ 7
+  pub other-block : (b asked : ℕ) → (b ≡ block → ⊥) → isRight asked ≡ true
+      → checkNumber key rounds roll (issuedGrant key rounds roll contractor block right) b asked ≡ 9
 
 unfoldable pub IssuedOpens : Type 0
 IssuedOpens = (key : List ℕ) (rounds : ℕ) (roll : Roll) (contractor block right : ℕ) (out : List ℕ)
     → Issued key rounds roll contractor block right out → Checks key rounds roll contractor block right
+
+-- ---- looking before overwriting
+-- whatever opens for overwriting opens for reading, with the same contractor
+unfoldable pub OverwritingOpensReading : Type 0
+OverwritingOpensReading = (key : List ℕ) (rounds : ℕ) (roll : Roll) (grant : List ℕ) (block contractor : ℕ)
+    → Accepted key rounds roll grant block 2 contractor → Accepted key rounds roll grant block 1 contractor
+
+-- not the other way round. Under a key of twelve zeros with ten rounds, contractor 7 is entered on an empty roll and gets a grant to read size
+-- block 300: it opens for reading, and asked for overwriting it is refused with 10
+unfoldable pub ReadingDoesNotOverwrite : Type 0
+ReadingDoesNotOverwrite =
+    Accepted (replicate 12 0) 10 (enteredRoll emptyRoll 7) (issuedGrant (replicate 12 0) 10 (enteredRoll emptyRoll 7) 7 300 1) 300 1 7
+    × (checkNumber (replicate 12 0) 10 (enteredRoll emptyRoll 7) (issuedGrant (replicate 12 0) 10 (enteredRoll emptyRoll 7) 7 300 1) 300 2 ≡ 10)
+
+-- only a grant to overwrite opens for overwriting
+unfoldable pub OnlyOverwritingOverwrites : Type 0
+OnlyOverwritingOverwrites = (key : List ℕ) (rounds : ℕ) (roll : Roll) (grant : List ℕ) (block : ℕ)
+    → checkNumber key rounds roll grant block 2 ≡ 0 → rightIn (openedGrant key rounds grant) ≡ 2
+
+-- 10 is given only where overwriting is asked of a whole grant to read
+pub record ReadingGrant (key : List ℕ) (rounds : ℕ) (grant : List ℕ) (right : ℕ) : Type 0 where
+  pub asked : right ≡ 2
+  pub whole : isGrant (openedGrant key rounds grant) ≡ true
+  pub reads : rightIn (openedGrant key rounds grant) ≡ 1
+
+unfoldable pub TenOnlyForOverwriting : Type 0
+TenOnlyForOverwriting = (key : List ℕ) (rounds : ℕ) (roll : Roll) (grant : List ℕ) (block right : ℕ)
+    → checkNumber key rounds roll grant block right ≡ 10 → ReadingGrant key rounds grant right
 
 -- ---- revocation, over all histories
 -- a grant opens for no size block and no right

@@ -135,11 +135,13 @@ impl Call {
 
     /// Whether a reason has no meaning where another holds: without a right key length no round
     /// count and no stage is wrong, nothing is deciphered that is not whole, and without a roll and
-    /// a contractor nobody is in standing. And nobody in standing has a count that is spent.
+    /// a contractor nobody is in standing. And nobody in standing has a count that is spent, and who
+    /// asks for no right does not ask for overwriting.
     fn silences(self, holding: u32, other: u32) -> bool {
         let silent: &[u32] = match (self, holding) {
             (Call::Check, 1) => &[2, 8, 9, 10, 20, 23],
             (Call::Check, 2 | 3) => &[8, 9, 10, 20, 23],
+            (Call::Check, 7) => &[10],
             (Call::Check, 8) => &[9, 10, 20, 23],
             (_, 1) => &[2, 5],
             (_, 3 | 6) => &[20, 21, 22],

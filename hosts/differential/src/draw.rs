@@ -2,7 +2,7 @@
 
 use crate::call::Call;
 use crate::case::Case;
-use crate::expect::{needed, BLOCK_BYTES};
+use crate::expect::{needed, BLOCK_BYTES, OVERWRITING, READING};
 use crate::family::{self, Family, Held};
 use crate::holders;
 use crate::oracle::{Oracle, Way};
@@ -178,12 +178,16 @@ fn with_request(case: &mut Case, family: &Family, random: &mut Random) {
     case.right = random.pick(&[1, 2]);
 }
 
-/// A grant, as issued or tampered with, and the roll of its issue, or another.
+/// A grant, as issued or tampered with, asked for its right or the other one, and the roll of its
+/// issue, or another.
 fn with_grant(case: &mut Case, family: &Family, random: &mut Random) {
     let held = &family.held[random.below(family.held.len())];
     with_key(case, family, random);
     case.size_block = held.size_block;
     case.right = held.right;
+    if random.once_in(4) {
+        case.right = READING + OVERWRITING - held.right;
+    }
     case.block = match random.below(2) {
         0 => random.pick(&held.tampered),
         _ => held.grant.clone(),

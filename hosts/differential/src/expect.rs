@@ -22,6 +22,10 @@ const LIST_LENGTHS: RangeInclusive<usize> = 132..=288;
 /// The least count at which nobody is entered.
 const SPENT: u16 = 65_534;
 
+/// The rights.
+pub const READING: u32 = 1;
+pub const OVERWRITING: u32 = 2;
+
 /// The reasons of a check that are seen in what was deciphered.
 const SEEN_IN_A_GRANT: [u32; 5] = [8, 9, 10, 20, 23];
 
@@ -115,7 +119,7 @@ fn holds(case: &Case, reason: u32) -> bool {
         5 if case.call == Call::Run => wrong_list(case.list.len()),
         5 => stages(case).map_or(false, |stages| case.stage as usize >= stages),
         6 => !is_contractor(case.contractor),
-        7 => case.right != 1 && case.right != 2,
+        7 => case.right != READING && case.right != OVERWRITING,
         20 => own_count(case).map_or(false, |count| !in_standing(count)),
         21 => own_count(case).map_or(false, in_standing),
         22 => own_count(case).map_or(false, |count| count >= SPENT),
@@ -164,7 +168,7 @@ fn holds_of_grant(case: &Case, grant: Option<&Grant>, reason: u32) -> bool {
     match reason {
         8 => false,
         9 => grant.block != case.size_block,
-        10 => u32::from(grant.right) != case.right,
+        10 => u32::from(grant.right) == READING && case.right == OVERWRITING,
         20 => !in_standing(count),
         23 => grant.count != count,
         other => panic!("reason {other} is not seen in a grant"),
@@ -241,7 +245,7 @@ fn plain(case: &Case) -> Vec<u8> {
     grant.plain_bytes()
 }
 
-/// The answer to a grant that opens.
+/// The answer to a grant that opens: it has the right asked for, whichever the grant has.
 fn opening(case: &Case, oracle: &mut Oracle) -> u32 {
     let grant = opened(case, oracle).expect("a grant that opens is a grant");
     1000 * case.right + u32::from(grant.contractor)

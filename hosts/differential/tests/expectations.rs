@@ -2,9 +2,9 @@
 
 use gordzila_differential::call::Call;
 use gordzila_differential::case::Case;
-use gordzila_differential::expect::{expected, Effect};
+use gordzila_differential::expect::{expected, Effect, OVERWRITING, READING};
 use gordzila_differential::opinion::second;
-use gordzila_differential::oracle::Oracle;
+use gordzila_differential::oracle::{Oracle, Way};
 use gordzila_differential::order::read;
 use gordzila_differential::rolls::set_count;
 
@@ -108,6 +108,13 @@ fn right(call: Call) -> Case {
     case
 }
 
+/// The grant of a right check, but with any byte as its right.
+fn grant_with(right: u8) -> Vec<u8> {
+    let plain = [0, 7, 0, 1, 0, 0, 1, 44, right, 0x47, 0x52, 0x44];
+    let key: Vec<u8> = (0..12).collect();
+    Oracle::new().block(Way::Encipher, &key, 10, &plain)
+}
+
 /// Makes a reason hold of a right case, and with it as few others as can be.
 fn spoil(case: &mut Case, reason: u32) {
     match reason {
@@ -122,7 +129,7 @@ fn spoil(case: &mut Case, reason: u32) {
         7 => case.right = 3,
         8 => case.block[0] ^= 1,
         9 => case.size_block += 1,
-        10 => case.right = 1,
+        10 => case.block = grant_with(READING as u8),
         20 => set_count(&mut case.roll, 7, 2),
         21 => set_count(&mut case.roll, 7, 1),
         22 => set_count(&mut case.roll, 7, 65_534),
@@ -459,6 +466,73 @@ fn no_other_number_is_that_of_a_contractor() {
     }
 }
 
+/// A check of a grant with any byte as its right, for any right.
+fn check_case(in_grant: u8, asked: u32) -> Case {
+    let mut case = right(Call::Check);
+    case.block = grant_with(in_grant);
+    case.right = asked;
+    case
+}
+
+#[test]
+fn what_is_issued_is_the_grant_of_a_check() {
+    for asked in [READING, OVERWRITING] {
+        let mut case = right(Call::Issue);
+        case.right = asked;
+        assert_eq!(effect(&case).written, grant_with(asked as u8));
+    }
+}
+
+/// The right in the grant, the right asked for, and the answer.
+#[test]
+fn each_right_in_a_grant_and_each_right_asked_for() {
+    let table = [
+        (1, 1, 1007),
+        (1, 2, 10),
+        (2, 1, 1007),
+        (2, 2, 2007),
+        (0, 1, 8),
+        (0, 2, 8),
+        (3, 1, 8),
+        (3, 2, 8),
+        (129, 1, 8),
+        (130, 2, 8),
+        (255, 1, 8),
+        (255, 2, 8),
+    ];
+    for (in_grant, asked, right) in table {
+        assert_eq!(answer(&check_case(in_grant, asked)), right, "{in_grant}");
+    }
+    for in_grant in [0, 1, 2, 3, 255] {
+        for asked in [0, 3, 255, 256, 257, 258, 65_538, u32::MAX] {
+            assert_eq!(answer(&check_case(in_grant, asked)), 7, "{asked}");
+        }
+    }
+}
+
+/// 10 holds of a reading grant that is asked for overwriting, and of no other, whatever else holds.
+#[test]
+fn ten_holds_only_where_overwriting_is_asked_of_a_reading_grant() {
+    let table: [(u8, u32, &[u32]); 8] = [
+        (1, 1, &[9, 20, 23]),
+        (1, 2, &[9, 10, 20, 23]),
+        (2, 1, &[9, 20, 23]),
+        (2, 2, &[9, 20, 23]),
+        (1, 3, &[7, 9, 20, 23]),
+        (2, 0, &[7, 9, 20, 23]),
+        (0, 2, &[8]),
+        (3, 3, &[7, 8]),
+    ];
+    for (in_grant, asked, reasons) in table {
+        let mut case = check_case(in_grant, asked);
+        case.size_block = 301;
+        set_count(&mut case.roll, 7, 2);
+        let found = expected(&case, &mut Oracle::new()).reasons;
+        assert_eq!(found, reasons, "{in_grant}, asked for {asked}");
+        assert_eq!(answer(&case), reasons[0]);
+    }
+}
+
 #[test]
 fn the_first_grant_of_the_independent_log() {
     let mut case = roll_case(Call::Issue, 125, 0);
@@ -470,6 +544,8 @@ fn the_first_grant_of_the_independent_log() {
     case.call = Call::Check;
     case.block = hex("d32576330e4c32e359c52ef4");
     assert_eq!(answer(&case), 2125);
+    case.right = 1;
+    assert_eq!(answer(&case), 1125);
     set_count(&mut case.roll, 125, 2);
     assert_eq!(answer(&case), 20);
     set_count(&mut case.roll, 125, 3);

@@ -549,6 +549,144 @@ fn counts_cut_to_a_byte_are_found() {
     }
 }
 
+/// What a grant deciphers to that is lent for a check.
+fn deciphered(lent: &Lent) -> Option<[u8; 12]> {
+    let grant = copied(lent.block).try_into().ok()?;
+    gordzila::decipher(&copied(lent.key), lent.rounds, &grant).ok()
+}
+
+/// What the archive answers to a check if other plain bytes stand in the grant.
+fn answer_with(plain: &[u8; 12], lent: &Lent) -> u32 {
+    let grant = gordzila::encipher(&copied(lent.key), lent.rounds, plain);
+    let mut grant = grant.expect("what was deciphered can be enciphered");
+    let mut lent = *lent;
+    lent.block.start = grant.as_mut_ptr();
+    archive(Call::Check, &lent)
+}
+
+/// What a library answers to a check that has another rule on rights. Where the check comes as far
+/// as reason 10, `refuses` says of the right in the grant and the one asked for whether 10 is given,
+/// and `answered` which right is answered if the grant opens.
+fn by_other_rule(
+    lent: &Lent,
+    refuses: &dyn Fn(u32, u32) -> bool,
+    answered: &dyn Fn(u32, u32) -> u32,
+) -> u32 {
+    let answer = archive(Call::Check, lent);
+    let mut plain = match deciphered(lent) {
+        Some(plain) if matches!(answer, 10 | 20 | 23 | 1000..) => plain,
+        _ => return answer,
+    };
+    let (in_grant, asked) = (u32::from(plain[8]), lent.right);
+    if refuses(in_grant, asked) {
+        return 10;
+    }
+    // A grant with the right asked for shows what comes after 10.
+    plain[8] = asked as u8;
+    match answer_with(&plain, lent) {
+        opens @ 1000.. => 1000 * answered(in_grant, asked) + opens % 1000,
+        refusal => refusal,
+    }
+}
+
+/// The 16 rules on which two rights are refused with 10. From the lowest bit on: a reading grant
+/// asked for reading, and for overwriting; an overwriting grant asked for reading, and for
+/// overwriting. The second bit alone is the library's rule. Of the others, which are all found, 0000
+/// lets a reading grant overwrite, 0110 also refuses an overwriting grant for reading, and 0100 has
+/// it the wrong way round.
+#[test]
+fn every_other_rule_on_rights_is_found() {
+    for rule in 0..16_u32 {
+        let refuses = |in_grant, asked| rule >> (2 * (in_grant - 1) + asked - 1) & 1 == 1;
+        let library = |lent: &Lent| by_other_rule(lent, &refuses, &|_, asked| asked);
+        match rule {
+            0b0010 => assert_eq!(found(Call::Check, &|_, lent: &Lent| library(lent)), 0),
+            _ => always_found(Call::Check, |lent| {
+                let answer = library(lent);
+                (answer, answer != archive(Call::Check, lent))
+            }),
+        }
+    }
+}
+
+#[test]
+fn an_answer_with_another_right_is_found() {
+    // The grant's, the one that is not asked for, and always the same.
+    let rules: [fn(u32, u32) -> u32; 4] = [
+        |in_grant, _| in_grant,
+        |_, asked| 3 - asked,
+        |_, _| 1,
+        |_, _| 2,
+    ];
+    for answered in rules {
+        always_found(Call::Check, |lent| {
+            let refuses = |in_grant, asked| in_grant == 1 && asked == 2;
+            let answer = by_other_rule(lent, &refuses, &answered);
+            (answer, answer != archive(Call::Check, lent))
+        });
+    }
+}
+
+/// Tries a library that gives 10 in another place: what is made of the answer and of the one that it
+/// would be with the right asked for in the grant.
+fn ten_elsewhere_is_found(place: impl Fn(u32, u32, u8) -> u32 + Sync) {
+    always_found(Call::Check, |lent| {
+        let answer = archive(Call::Check, lent);
+        let elsewhere = match deciphered(lent) {
+            Some(mut plain) if lent.right == 2 && ![3, 7].contains(&answer) => {
+                let in_grant = std::mem::replace(&mut plain[8], 2);
+                place(answer, answer_with(&plain, lent), in_grant)
+            }
+            _ => answer,
+        };
+        (elsewhere, elsewhere != answer)
+    });
+}
+
+#[test]
+fn ten_in_another_place_is_found() {
+    // After 20, after 23, and before 9.
+    ten_elsewhere_is_found(|answer, after, _| match (answer, after) {
+        (10, 20) => 20,
+        _ => answer,
+    });
+    ten_elsewhere_is_found(|answer, after, _| match (answer, after) {
+        (10, 23) => 23,
+        _ => answer,
+    });
+    ten_elsewhere_is_found(|answer, _, in_grant| match (answer, in_grant) {
+        (9, 1) => 10,
+        _ => answer,
+    });
+    // Before 8, for a byte that is no right in a grant that is whole otherwise.
+    ten_elsewhere_is_found(|answer, after, in_grant| match (answer, after, in_grant) {
+        (8, 9.., 0) => 10,
+        _ => answer,
+    });
+    ten_elsewhere_is_found(|answer, after, in_grant| match (answer, after, in_grant) {
+        (8, 9.., 3..) => 10,
+        _ => answer,
+    });
+}
+
+/// A byte that is no right is refused with 8, and not taken for a right.
+#[test]
+fn a_byte_taken_for_a_right_is_found() {
+    for taken in [1, 2] {
+        always_found(Call::Check, |lent| {
+            let answer = archive(Call::Check, lent);
+            let other = match deciphered(lent) {
+                Some(mut plain) if answer == 8 && ![1, 2].contains(&plain[8]) => {
+                    plain[8] = taken;
+                    answer_with(&plain, lent)
+                }
+                _ => answer,
+            };
+            (other, other != answer)
+        });
+    }
+}
+
 #[test]
 fn a_wrong_expectation_is_found() {
     let mut random = Random::new(SEED, 1);

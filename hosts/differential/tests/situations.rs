@@ -141,6 +141,45 @@ fn grants_open_for_both_rights_and_the_ends_of_the_contractors() {
     }
 }
 
+/// The right byte of what the grant of a check deciphers to, if it is whole but for that byte.
+fn right_in_grant(case: &Case) -> Option<u8> {
+    let grant = case.block.as_slice().try_into().ok()?;
+    let plain = gordzila::decipher(&case.key, case.rounds, grant).ok()?;
+    let contractor = u32::from(plain[0]) << 8 | u32::from(plain[1]);
+    let whole = is_contractor(contractor) && plain[9..] == *b"GRD";
+    whole.then_some(plain[8])
+}
+
+/// The right in the grant, the right asked for, and answers that occur with them.
+#[test]
+fn grants_of_each_right_are_asked_for_each_right() {
+    let table: [(u8, u32, &[u32]); 12] = [
+        (1, 1, &[1001, 1200, 9, 20, 23]),
+        (1, 2, &[9, 10]),
+        (2, 1, &[1001, 1200, 9, 20, 23]),
+        (2, 2, &[2001, 2200, 9, 20, 23]),
+        (0, 1, &[8]),
+        (0, 2, &[8]),
+        (3, 1, &[8]),
+        (3, 2, &[8]),
+        (1, 0, &[7]),
+        (1, 3, &[7]),
+        (2, 0, &[7]),
+        (2, 3, &[7]),
+    ];
+    let checks: Vec<(Option<u8>, u32, u32)> = cases()
+        .iter()
+        .filter(|pair| pair.0.call == Call::Check)
+        .map(|(case, expected)| (right_in_grant(case), case.right, expected.effect.answer))
+        .collect();
+    for (in_grant, asked, answers) in table {
+        for &answer in answers {
+            let wanted = (Some(in_grant), asked, answer);
+            assert!(checks.contains(&wanted), "{wanted:?}");
+        }
+    }
+}
+
 #[test]
 fn blocks_lent_from_the_keys_bytes_occur() {
     let shared: Vec<&Case> = cases()

@@ -2,7 +2,7 @@
 use mathlib.Core.Path.{sym, _∙_}
 use denote.Ref.{now}
 use Rattle.basics.specs.Bytes.{AreBytes}
-use Rattle.call_verdicts.proofs.Laws.{call-refused-first, call-room, call-opened}
+use Rattle.call_verdicts.proofs.Laws.{call-refused-first, call-room, call-then-checked}
 use Rattle.verdicts.proofs.Laws.{twelve-taken}
 use borrow.Author.Needs.{needs}
 use Rattle.call_verdicts.proofs.call_issue_then_check.Statement.{statement}
@@ -13,7 +13,9 @@ returns c =
     let i = c .before .before .before in
     let a = i .before .before .before .before .before .args in
     let n = i .gordzila-issue .ensures in
-    (call-refused-first (now (a .key)) (a .rounds) (now (a .roll)) (a .contractor) (a .size-block) (a .right) (now (a .out)) _ (n .0) (c .if1 .taken), n .1)
+    let r = call-refused-first (now (a .key)) (a .rounds) (now (a .roll)) (a .contractor) (a .size-block) (a .right) (a .asked) (now (a .out)) _ (n .0)
+    (c .if1 .taken) in
+    (r, n .1)
 
 slice-reshare-prefix-gordzila-check : tie.Need-slice-reshare-prefix-gordzila-check
 slice-reshare-prefix-gordzila-check c =
@@ -40,8 +42,8 @@ returns-2 c =
     let e = sym (n .0) ∙ c .before .before .if1 .left in
     let key : AreBytes (now (a .key)) = λ j. k .shared-slice-known .given j .fits in
     let roll : AreBytes (now (a .roll)) = λ j. i .before .before .before .shared-slice-known2 .given j .fits in
-    let r = call-opened (now (a .key)) (a .rounds) (now (a .roll)) (a .contractor) (a .size-block) (a .right) (now (a .out)) e _ (n .1) key roll
-    (s .fits .size-block .fits) (c .gordzila-check .result) (c .gordzila-check .ensures) in
+    let r = call-then-checked (now (a .key)) (a .rounds) (now (a .roll)) (a .contractor) (a .size-block) (a .right) (a .asked) (now (a .out)) e _ (n .1) key
+    roll (s .fits .size-block .fits) (c .gordzila-check .result) (c .gordzila-check .ensures) in
     (r, n .1)
 
 pub call-issue-then-check-spec : {M : Type 1} → statement M

@@ -13,7 +13,7 @@ use Rattle.refusal.proofs.Ladder.{all-passed, positive-refused}
 use Rattle.basics.proofs.Tests.{and-second}
 use Rattle.roll.specs.Roll.{countOf}
 use Rattle.roll_bytes.specs.RollBytes.{rollLength, rollOf}
-use Rattle.grant.specs.Grants.{contractorIn, rightIn}
+use Rattle.grant.specs.Grants.{contractorIn}
 use Rattle.judging.specs.Judging.{inputTries, plainTries}
 use Rattle.checking.specs.Checking.{openedGrant, countNow}
 use Rattle.check_call.specs.CheckCall.{callCode}
@@ -36,7 +36,7 @@ rest s p n = plainTries p n (s .args .size-block) (s .args .right)
 
 -- the call's number, from plain bytes and a count
 abbrev code : tie.Start → List ℕ → ℕ → ℕ
-code s p n = answered (first (input s ++ rest s p n)) (1000 * rightIn p + contractorIn p) (first (input s ++ rest s p n))
+code s p n = answered (first (input s ++ rest s p n)) (1000 * s .args .right + contractorIn p) (first (input s ++ rest s p n))
 
 tried : (c : tie.After-is-refused) → outcomeNumber (c .before .try-input .result) ≡ first (input (start c))
 tried c =
@@ -56,7 +56,7 @@ returns c =
     let p = openedGrant (now (a .key)) (a .rounds) (now (a .grant)) in
     let n = countNow (now (a .key)) (a .rounds) (rollOf (now (a .roll))) (now (a .grant)) in
     c .outcome-number .ensures
-    ∙ call-refused (input s) (rest s p n) _ (1000 * rightIn p + contractorIn p)
+    ∙ call-refused (input s) (rest s p n) _ (1000 * a .right + contractorIn p)
     (positive-refused _ (sym (k .is-refused .ensures) ∙ c .before .if1 .taken)) (tried k)
 
 open-requires : tie.Need-open-requires
@@ -86,7 +86,7 @@ returns-2 c =
     let e = o .open .ensures in
     let ec = n .count-in .ensures ∙ ap (countOf (rollOf (now (a .roll)))) (n .before .contractor-in .ensures ∙ ap contractorIn e) in
     c .verdict-code .ensures
-    ∙ call-judged (input s) (rest s p (n .count-in .result)) (contractorIn p) (rightIn p) (j .judge .result) (passed d) (j .judge .ensures)
+    ∙ call-judged (input s) (rest s p (n .count-in .result)) (contractorIn p) (a .right) (j .judge .result) (passed d) (j .judge .ensures)
     ∙ ap₂ (code s) e ec
 
 pub check-spec : {M : Type 1} → statement M

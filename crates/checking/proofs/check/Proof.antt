@@ -12,7 +12,7 @@ use Rattle.refusal.proofs.Reasons.{reason-positive}
 use Rattle.refusal.proofs.Tries.{first-before, first-then}
 use Rattle.refusal.proofs.Ladder.{all-pass}
 use Rattle.roll.specs.Roll.{countOf}
-use Rattle.grant.specs.Grants.{contractorIn, rightIn}
+use Rattle.grant.specs.Grants.{contractorIn}
 use Rattle.judging.specs.Judging.{inputTries, plainTries}
 use Rattle.checking.specs.Checking.{openedGrant, countNow, checkTries, checkContractor, checkRight}
 use Rattle.judging.proofs.Verdicts.{verdict-refused, verdict-passed}
@@ -48,7 +48,7 @@ returns c =
     let t = c .before .tried .given in
     let k = c .before .before .before in
     let s = start k in
-    verdict-refused (tries s) (contractorIn (plain s)) (rightIn (plain s)) _ (reason-positive (t .0 .0))
+    verdict-refused (tries s) (contractorIn (plain s)) (s .args .right) _ (reason-positive (t .0 .0))
     (first-before (input s) (rest s) _ (reason-positive (t .0 .0)) (sym (k .try-input .ensures) ∙ ap outcomeNumber (t .1)))
 
 open-requires : tie.Need-open-requires
@@ -66,11 +66,11 @@ returns-2 c =
     let e = o .open .ensures in
     let ec = n .count-of .ensures ∙ ap (countOf (a .roll)) (n .before .contractor-in .ensures ∙ ap contractorIn e) in
     let j = c .judge .ensures in
-    verdict-passed (tries s) (contractorIn (plain s)) (rightIn (plain s)) (rest s) _ _ _ (first-then (input s) (rest s) (passed told)) (
+    verdict-passed (tries s) (contractorIn (plain s)) (a .right) (rest s) _ _ _ (first-then (input s) (rest s) (passed told)) (
       j .0 ∙ ap₂ (λ (p : List ℕ) (n : ℕ). first (ts p n)) e ec,
       (
         j .1 .0 ∙ ap₂ (λ (p : List ℕ) (n : ℕ). answered (first (ts p n)) (contractorIn p) 0) e ec,
-        j .1 .1 ∙ ap₂ (λ (p : List ℕ) (n : ℕ). answered (first (ts p n)) (rightIn p) 0) e ec,
+        j .1 .1 ∙ ap₂ (λ (p : List ℕ) (n : ℕ). answered (first (ts p n)) (a .right) 0) e ec,
       ),
     )
 

@@ -2,14 +2,13 @@
 use mathlib.Core.Path.{_≡_, refl, sym, ap, _∙_}
 use mathlib.Core.List.{List, [], _∷_, _++_}
 use denote.Ref.{now}
-use borrow.Author.Tests.{eqb-true}
 use Rattle.refusal.specs.Reasons.{outcomeNumber}
 use Rattle.refusal.specs.Tries.{Try, _unless_, first, NoneHolds}
 use Rattle.refusal.proofs.Reasons.{reason-positive}
 use Rattle.refusal.proofs.Ladder.{one-try, climbs-first, then, all-pass}
-use Rattle.grant.specs.Grants.{isRight, isGrant, contractorIn, rightIn}
+use Rattle.grant.specs.Grants.{isGrant, contractorIn, rightIn}
 use Rattle.judging.specs.Judging.{askedTries, standingTries, plainTries}
-use Rattle.grant.proofs.Tests.{a-grant}
+use Rattle.grant.proofs.Rights.{covered-right}
 use Rattle.judging.proofs.Verdicts.{verdict-refused, verdict-opens}
 use borrow.Author.Needs.{needs}
 use Rattle.judging.proofs.judge.Statement.{statement}
@@ -37,25 +36,24 @@ none c = sym (tried (c .before .before)) ∙ ap outcomeNumber (c .enum-told .giv
 passed : (c : tie.After-enum-told) → NoneHolds (tries (start (c .before .before)))
 passed c = all-pass (tries (start (c .before .before))) refl (none c)
 
-same-right : (c : tie.After-enum-told) → rightIn (now (start (c .before .before) .args .p)) ≡ start (c .before .before) .args .right
-same-right c = eqb-true _ _ (passed c .1 .1 .0)
-
 returns : tie.Need-returns
 returns c =
     let t = c .before .tried .given in
     let k = c .before .before .before in
     let p = now (start k .args .p) in
-    verdict-refused (tries (start k)) (contractorIn p) (rightIn p) _ (reason-positive (t .0 .0)) (sym (tried k) ∙ ap outcomeNumber (t .1))
+    verdict-refused (tries (start k)) (contractorIn p) (start k .args .right) _ (reason-positive (t .0 .0)) (sym (tried k) ∙ ap outcomeNumber (t .1))
 
 right-of-requires : tie.Need-right-of-requires
-right-of-requires c κs = let e = c .before in sym (ap isRight (same-right e)) ∙ a-grant _ (passed e .0) .right
+right-of-requires c κs =
+    let e = c .before in
+    covered-right (rightIn (now (start (e .before .before) .args .p))) _ (passed e .1 .1 .0)
 
 returns-2 : tie.Need-returns-2
 returns-2 c =
     let e = c .before .before in
     let s = start (e .before .before) in
     let p = now (s .args .p) in
-    verdict-opens (tries s) (contractorIn p) (rightIn p) _ _ (c .before .contractor-in .ensures) (c .right-of .ensures ∙ sym (same-right e)) (none e)
+    verdict-opens (tries s) (contractorIn p) (s .args .right) _ _ (c .before .contractor-in .ensures) (c .right-of .ensures) (none e)
 
 pub judge-spec : {M : Type 1} → statement M
 judge-spec =

@@ -15,8 +15,8 @@ returns c =
     let known = i .before .before .before .before .before in
     let a = known .before .before .args in
     let n = i .gordzila-issue .ensures in
-    let k = kept-refused (now (a .key)) (a .rounds) (now (a .roll)) (a .contractor) (a .size-block) (a .right) (now (a .calls)) (a .asked) (a .access)
-    (now (a .out)) _ (n .0) (c .if1 .taken) in
+    let k = kept-refused (now (a .key)) (a .rounds) (now (a .roll)) (a .contractor) (a .size-block) (a .right) (now (a .calls))
+    (a .asked-block) (a .asked-right) (now (a .out)) _ (n .0) (c .if1 .taken) in
     (k .0, (k .1 .0, (k .1 .1, n .1)))
 
 slice-reshare-prefix-gordzila-check : tie.Need-slice-reshare-prefix-gordzila-check
@@ -50,9 +50,9 @@ returns-2 c =
     let n = i .gordzila-issue .ensures in
     let key : AreBytes (now (a .key)) = λ j. known .before .shared-slice-known .given j .fits in
     let roll : AreBytes (now (a .roll)) = λ j. known .slice-known .given j .fits in
-    let k = kept-checked (now (a .key)) (a .rounds) (now (a .roll)) (a .contractor) (a .size-block) (a .right) (now (a .calls)) (a .asked) (a .access)
-    (now (a .out)) (sym (n .0) ∙ t .if1 .left) key roll (s .fits .size-block .fits) _ (n .1) _ (h .call-changes .ensures) (c .gordzila-check .result)
-    (c .gordzila-check .ensures) in
+    let k = kept-checked (now (a .key)) (a .rounds) (now (a .roll)) (a .contractor) (a .size-block) (a .right) (now (a .calls))
+    (a .asked-block) (a .asked-right) (now (a .out)) (sym (n .0) ∙ t .if1 .left) key roll (s .fits .size-block .fits) _ (n .1) _
+    (h .call-changes .ensures) (c .gordzila-check .result) (c .gordzila-check .ensures) in
     (k .0, (k .1 .0, (k .1 .1, n .1)))
 
 pub call-issue-change-check-spec : {M : Type 1} → statement M

@@ -3,7 +3,7 @@ use mathlib.Core.Path.{sym, ap, _∙_}
 use denote.Ref.{now}
 use Rattle.refusal.specs.Reasons.{outcomeNumber}
 use Rattle.basics.specs.Bytes.{AreBytes}
-use Rattle.verdicts.proofs.Laws.{room, twelve-taken, refused-first, opened}
+use Rattle.verdicts.proofs.Laws.{room, twelve-taken, refused-first, then-checked}
 use borrow.Author.Needs.{needs}
 use Rattle.verdicts.proofs.issue_then_check.Statement.{statement}
 use Rattle.verdicts.proofs.issue_then_check.Tie as tie
@@ -34,8 +34,8 @@ returns c =
     let a = s .args in
     let e = sym (i .issue .ensures .0) ∙ ap outcomeNumber (t .enum-told .given .1) in
     let bytes : AreBytes (now (a .key)) = λ j. i .before .before .before .shared-slice-known .given j .fits in
-    let r = opened (now (a .key)) (a .rounds) (a .roll) (a .contractor) (a .size-block) (a .right) (now (a .out)) bytes (s .fits .size-block .fits) e _
-    (i .issue .ensures .1) (c .check .result) (c .check .ensures) in
+    let r = then-checked (now (a .key)) (a .rounds) (a .roll) (a .contractor) (a .size-block) (a .right) (now (a .out)) (a .asked) bytes
+    (s .fits .size-block .fits) e _ (i .issue .ensures .1) (c .check .result) (c .check .ensures) in
     (r .0, (r .1 .0, (r .1 .1, i .issue .ensures .1)))
 
 returns-2 : tie.Need-returns-2
@@ -44,7 +44,7 @@ returns-2 c =
     let i = c .before .before .before .before .before in
     let a = i .before .before .before .before .args in
     let e = sym (ap outcomeNumber (o .1)) ∙ i .issue .ensures .0 in
-    let r = refused-first (now (a .key)) (a .rounds) (a .roll) (a .contractor) (a .size-block) (a .right) (now (a .out)) (o .0 .0) e in
+    let r = refused-first (now (a .key)) (a .rounds) (a .roll) (a .contractor) (a .size-block) (a .right) (now (a .out)) (a .asked) (o .0 .0) e in
     (r .0, (r .1 .0, (r .1 .1, i .issue .ensures .1)))
 
 pub issue-then-check-spec : {M : Type 1} → statement M

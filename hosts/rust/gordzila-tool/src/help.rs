@@ -63,7 +63,8 @@ be used.
 ";
 
 const ISSUE: &str = "\
-Issues a grant and prints its 12 bytes.
+Issues a grant and prints its 12 bytes. A grant for overwriting also opens its
+size block for reading.
 
 usage: gordzila issue OPTIONS
 
@@ -77,7 +78,9 @@ usage: gordzila issue OPTIONS
 ";
 
 const CHECK: &str = "\
-Checks a grant; if it opens, prints its contractor and right.
+Checks a grant; if it opens, prints its contractor and the right asked for. A
+grant for overwriting also opens its size block for reading; one for reading
+does not open it for overwriting.
 
 usage: gordzila check OPTIONS
 

@@ -65,8 +65,9 @@ pub fn run(list: &[u8], block: &[u8; BLOCK_BYTES]) -> Result<[u8; BLOCK_BYTES], 
     written(|out| raw::run(list, block, out))
 }
 
-/// Issues a grant to a contractor in the standing that the roll has for them. Refuses
-/// with [`Reason::KeyLength`], [`Reason::RoundCount`], [`Reason::Contractor`] or
+/// Issues a grant to a contractor in the standing that the roll has for them. A grant for
+/// overwriting also opens its size block for reading, so that nobody needs one of each.
+/// Refuses with [`Reason::KeyLength`], [`Reason::RoundCount`], [`Reason::Contractor`] or
 /// [`Reason::NotInStanding`].
 ///
 /// ```
@@ -102,7 +103,25 @@ pub fn issue(
 /// [`Reason::InputLength`], [`Reason::NotAGrant`], [`Reason::OtherBlock`],
 /// [`Reason::OtherRight`], [`Reason::NotInStanding`] or [`Reason::OtherCount`].
 ///
-/// An example stands with [`issue`].
+/// A grant for overwriting opens for reading too, and the answer has the right that was
+/// asked for. Overwriting asked of a reading grant is [`Reason::OtherRight`].
+///
+/// ```
+/// use gordzila::{check, issue, Opened, Reason, Right, Roll};
+///
+/// let (key, rounds) = (&[9; 12], 10);
+/// let mut roll = Roll::empty();
+/// roll.enter(7)?;
+///
+/// let overwriting = issue(key, rounds, &roll, 7, 300, Right::Overwriting)?;
+/// let opened = check(key, rounds, &roll, &overwriting, 300, Right::Reading)?;
+/// assert_eq!(opened, Opened { contractor: 7, right: Right::Reading });
+///
+/// let reading = issue(key, rounds, &roll, 7, 300, Right::Reading)?;
+/// let refused = check(key, rounds, &roll, &reading, 300, Right::Overwriting);
+/// assert_eq!(refused, Err(Reason::OtherRight));
+/// # Ok::<(), Reason>(())
+/// ```
 pub fn check(
     key: &[u8],
     rounds: u32,

@@ -2,13 +2,14 @@
 
 use std::fmt;
 
-/// What a grant lets its contractor do with a size block. Overwriting does not
-/// include reading: a check asks for the very right.
+/// What a grant lets its contractor do with a size block, and what a check asks for. A
+/// grant for overwriting also opens its size block for reading; one for reading does
+/// not open it for overwriting.
 #[derive(Clone, Copy, Debug, PartialEq, Eq)]
 pub enum Right {
     /// The right to read, 1.
     Reading = 1,
-    /// The right to overwrite, 2.
+    /// The right to overwrite, 2; in a grant it includes reading.
     Overwriting = 2,
 }
 
@@ -45,12 +46,13 @@ impl fmt::Display for Right {
     }
 }
 
-/// What a grant says that opens.
+/// What a check answers where a grant opens.
 #[derive(Clone, Copy, Debug, PartialEq, Eq)]
 pub struct Opened {
     /// The contractor to whom the grant was issued, 1 to 200.
     pub contractor: u32,
-    /// The right that it gives, which is the one asked for.
+    /// The right that was asked for, and not the grant's: a grant for overwriting that is
+    /// asked for reading has [`Right::Reading`] here.
     pub right: Right,
 }
 

@@ -14,10 +14,14 @@
 //! let mut roll = Roll::empty();
 //! roll.enter(7)?;
 //! let grant = issue(key, rounds, &roll, 7, size_block, Right::Overwriting)?;
-//! assert_eq!(
-//!     check(key, rounds, &roll, &grant, size_block, Right::Overwriting),
-//!     Ok(Opened { contractor: 7, right: Right::Overwriting })
-//! );
+//!
+//! // The grant is for overwriting, and opens for looking at the size block first.
+//! for right in [Right::Reading, Right::Overwriting] {
+//!     assert_eq!(
+//!         check(key, rounds, &roll, &grant, size_block, right),
+//!         Ok(Opened { contractor: 7, right })
+//!     );
+//! }
 //!
 //! // The contractor is dropped and later taken on again: the old grant stays shut.
 //! roll.withdraw(7)?;

@@ -33,15 +33,16 @@ pub use crate::sys::{
 use crate::{Opened, Reason, Right, Walked, Way, CONTRACTORS};
 
 /// An answer from this number on says that a grant opens; it is this number times the
-/// right, plus the contractor.
+/// right asked for, plus the contractor.
 const OPENS: u32 = 1000;
 
 /// An answer from this number on says that a holder walked; it is this number, or twice
 /// this number for a walk back, plus the steps.
 const WALKED: u32 = 1000;
 
-/// Checks a grant for one size block and one right. Order: 1, 2, 3 (grant or roll), 7,
-/// 8, 9, 10, 20, 23.
+/// Checks a grant for one size block and one right, which is the one in the answer. A
+/// grant for overwriting opens for reading too. Order: 1, 2, 3 (grant or roll), 7, 8, 9,
+/// 10, 20, 23.
 pub fn check(
     key: &[u8],
     rounds: u32,
@@ -63,7 +64,8 @@ pub fn withdraw(roll: &mut [u8], contractor: u32) -> Result<(), Reason> {
     done(withdraw_number(roll, contractor))
 }
 
-/// Issues a grant: 12 bytes to `out`. Order: 1, 2, 3 (roll), 4, 6, 7, 20.
+/// Issues a grant: 12 bytes to `out`. One for overwriting opens for reading too. Order: 1,
+/// 2, 3 (roll), 4, 6, 7, 20.
 pub fn issue(
     key: &[u8],
     rounds: u32,

@@ -36,7 +36,8 @@ pub enum Reason {
     NotAGrant = 8,
     /// 9: grant for another size block.
     OtherBlock = 9,
-    /// 10: grant for another right.
+    /// 10: overwriting asked of a reading grant. The name is older than this rule, and
+    /// stays for those who use it.
     OtherRight = 10,
     /// 20: contractor not in standing.
     NotInStanding = 20,
@@ -105,7 +106,7 @@ impl Reason {
             Reason::Right => "right neither 1 nor 2",
             Reason::NotAGrant => "the deciphered bytes have a wrong mark, contractor or right",
             Reason::OtherBlock => "grant for another size block",
-            Reason::OtherRight => "grant for another right",
+            Reason::OtherRight => "overwriting asked of a reading grant",
             Reason::NotInStanding => "contractor not in standing",
             Reason::InStanding => "entering someone in standing",
             Reason::CountSpent => "entering at count 65,534 or 65,535",

@@ -110,7 +110,7 @@ extern "C" {
 }
 
 /// The number that `gordzila_check` answers: that of a reason, or, where the grant
-/// opens, 1,000 times the right plus the contractor.
+/// opens, 1,000 times the right asked for plus the contractor.
 pub fn check_number(
     key: &[u8],
     rounds: u32,

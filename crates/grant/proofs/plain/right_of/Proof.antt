@@ -1,6 +1,6 @@
 -- `grant::plain::right_of` meets its contract.
 use mathlib.Core.Path.{sym}
-use Rattle.grant.proofs.Tests.{right-two}
+use Rattle.grant.proofs.Rights.{right-two}
 use borrow.Author.Needs.{needs}
 use Rattle.grant.proofs.plain.right_of.Statement.{statement}
 use Rattle.grant.proofs.plain.right_of.Tie as tie

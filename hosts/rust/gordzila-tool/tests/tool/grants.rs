@@ -1,10 +1,23 @@
 //! `issue` and `check`.
 
-use crate::running::{on_roll, Room, KEY};
+use crate::running::{on_roll, Room, Run, KEY};
+use std::path::Path;
 
 /// Options of a grant to contractor 7.
 fn options(rest: &str) -> String {
     format!("--key {KEY} --rounds 10 {rest}")
+}
+
+/// Issues contractor 7 a grant for size block 300.
+fn issued(roll: &Path, right: &str) -> String {
+    let rest = options(&format!("--contractor 7 --block 300 --right {right}"));
+    on_roll("issue", roll, &rest).done()
+}
+
+/// Checks a grant for size block 300.
+fn checked(roll: &Path, grant: &str, right: &str) -> Run {
+    let rest = options(&format!("--block 300 --right {right} --grant {grant}"));
+    on_roll("check", roll, &rest)
 }
 
 #[test]
@@ -27,6 +40,40 @@ fn a_grant_lives_and_dies() {
     assert_ne!(again, issued);
     let opens = on_roll("check", &roll, &format!("{asked} --grant {again}"));
     assert_eq!(opens.done(), "opens: contractor 7, overwriting\n");
+}
+
+#[test]
+fn an_overwriting_grant_also_opens_for_reading() {
+    let room = Room::new("look");
+    let roll = room.roll(&[(7, 1)]);
+    let grant = issued(&roll, "overwriting");
+    let check = |right| checked(&roll, &grant, right);
+    // First a look at the size block, then it is overwritten: one grant does for both.
+    assert_eq!(check("reading").done(), "opens: contractor 7, reading\n");
+    assert_eq!(
+        check("overwriting").done(),
+        "opens: contractor 7, overwriting\n"
+    );
+    // Looking ends with the standing too.
+    on_roll("withdraw", &roll, "--contractor 7").done();
+    assert_eq!(check("reading").refused(), 20);
+    on_roll("enter", &roll, "--contractor 7").done();
+    assert_eq!(check("reading").refused(), 23);
+}
+
+#[test]
+fn a_reading_grant_does_not_overwrite() {
+    let room = Room::new("reading");
+    let roll = room.roll(&[(7, 1)]);
+    let grant = issued(&roll, "reading");
+    let check = |right| checked(&roll, &grant, right);
+    assert_eq!(check("reading").done(), "opens: contractor 7, reading\n");
+    let run = check("overwriting");
+    assert_eq!(
+        run.err,
+        "refused with 10: overwriting asked of a reading grant\n"
+    );
+    assert_eq!(run.refused(), 10);
 }
 
 #[test]
@@ -69,8 +116,7 @@ fn issuing_refuses_with_1_2_6_7_20() {
 fn checking_refuses_with_1_2_3_7_8_9_10_20_23() {
     let room = Room::new("check-refusals");
     let roll = room.roll(&[(7, 1)]);
-    let rest = options("--contractor 7 --block 300 --right 2");
-    let grant = on_roll("issue", &roll, &rest).done();
+    let (grant, reading) = (issued(&roll, "2"), issued(&roll, "1"));
     let number = |key: &str, rounds: u32, grant: &str, block: u32, right: u32| {
         let rest = format!(
             "--key {key} --rounds {rounds} --grant {grant} --block {block} --right {right}"
@@ -84,7 +130,7 @@ fn checking_refuses_with_1_2_3_7_8_9_10_20_23() {
     assert_eq!(number(KEY, 10, &grant, 300, 3), 7);
     assert_eq!(number(KEY, 11, &grant, 300, 2), 8);
     assert_eq!(number(KEY, 10, &grant, 301, 2), 9);
-    assert_eq!(number(KEY, 10, &grant, 300, 1), 10);
+    assert_eq!(number(KEY, 10, &reading, 300, 2), 10);
     room.roll(&[(7, 2)]);
     assert_eq!(number(KEY, 10, &grant, 300, 2), 20);
     room.roll(&[(7, 3)]);
@@ -96,10 +142,8 @@ fn a_check_leaves_the_roll_alone() {
     let room = Room::new("check-reads");
     let roll = room.roll(&[(7, 1)]);
     let before = std::fs::read(&roll).unwrap();
-    let rest = options("--contractor 7 --block 300 --right 2");
-    let grant = on_roll("issue", &roll, &rest).done();
-    let rest = options(&format!("--block 300 --right 2 --grant {grant}"));
-    on_roll("check", &roll, &rest).done();
+    let grant = issued(&roll, "2");
+    checked(&roll, &grant, "2").done();
     assert_eq!(std::fs::read(&roll).unwrap(), before);
     assert_eq!(room.names(), ["roll"]);
 }

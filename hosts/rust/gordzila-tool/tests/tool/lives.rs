@@ -8,8 +8,8 @@ use std::path::{Path, PathBuf};
 /// How many lines a life has.
 const LINES: usize = 28;
 
-/// How many lives are lived: some of each key length. All of them would start the
-/// tool some thousand times; the wrapper's tests have them all.
+/// Which lives are lived: some of each key length and of each right. All of them would
+/// start the tool some thousand times; the wrapper's tests have them all.
 const LIVES: [usize; 6] = [0, 1, 2, 8, 24, 47];
 
 /// The key, rounds, contractor, size block and right of a life, and its roll.
@@ -31,7 +31,10 @@ fn the_tool_answers_as_the_independent_program_does() {
         let room = Room::new(&format!("stored-{number}"));
         let lines = &lines[LINES * number..LINES * (number + 1)];
         let life = Life::new(lines[0], room.path("roll"));
-        assert_eq!(life.lived(), lines[1..], "{}", lines[0]);
+        let lived = life.lived();
+        assert_eq!(lived, lines[1..], "{}", lines[0]);
+        // The check of grant A for the other right, by the rule and not by what is stored.
+        assert_eq!(lived[5], life.other_right(), "{}", lines[0]);
     }
 }
 
@@ -74,6 +77,15 @@ impl<'a> Life<'a> {
             lines.push(line.replace("check", &format!("damaged {at}")));
         }
         lines
+    }
+
+    /// What a check for the other right than the grant's has to be: an overwriting grant
+    /// opens for reading, and a reading grant does not for overwriting.
+    fn other_right(&self) -> String {
+        match self.right {
+            2 => format!("check 0 {} 1", self.contractor),
+            _ => "check 10 0 0".to_string(),
+        }
     }
 
     fn change(&self, subcommand: &str) -> String {

@@ -230,6 +230,22 @@ fn help_names_every_option() {
 }
 
 #[test]
+fn help_tells_what_a_grant_opens() {
+    let opens = "A grant for overwriting also opens its size block for reading";
+    let refused = "one for reading does not open it for overwriting";
+    let answer = "if it opens, prints its contractor and the right asked for";
+    for (name, all) in [
+        ("issue", &[opens][..]),
+        ("check", &[opens, refused, answer]),
+    ] {
+        let help = line(&format!("help {name}")).done();
+        for words in all {
+            assert!(help.replace('\n', " ").contains(words), "{words}: {help}");
+        }
+    }
+}
+
+#[test]
 fn help_tells_of_the_lock() {
     for name in ["enter", "withdraw", "roll"] {
         let help = line(&format!("help {name}")).done();

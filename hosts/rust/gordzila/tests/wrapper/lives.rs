@@ -26,6 +26,26 @@ fn lives_are_those_of_the_independent_program() {
     }
 }
 
+/// The check of grant A for the other right, by the rule: an overwriting grant opens for
+/// reading, and a reading grant does not for overwriting.
+#[test]
+fn the_lives_have_the_rule_on_rights() {
+    let text = repository_file("crates/grant_life/stdout");
+    let lines: Vec<&str> = text.lines().collect();
+    let (mut looks, mut refusals) = (0, 0);
+    for lines in lines.chunks(LINES) {
+        let life = Life::new(lines[0]);
+        let expected = match life.right {
+            Right::Overwriting => format!("check 0 {} 1", life.contractor),
+            Right::Reading => "check 10 0 0".to_string(),
+        };
+        assert_eq!(lines[6], expected, "{}", lines[0]);
+        looks += u32::from(life.right == Right::Overwriting);
+        refusals += u32::from(life.right == Right::Reading);
+    }
+    assert!(looks > 0 && refusals > 0);
+}
+
 impl Life {
     fn new(line: &str) -> Life {
         let fields: Vec<&str> = line.split(' ').collect();

@@ -7,6 +7,7 @@ mod holders;
 mod lives;
 mod readers;
 mod refusals;
+mod rights;
 mod routes;
 mod vectors;
 

@@ -16,7 +16,8 @@ const READERS: [&str; 6] = [
     "int gordzila_walked_back(uint32_t answer) { return answer >= 2000; }",
 ];
 
-/// What the first three readers say: whether a grant opens, its right and contractor.
+/// What the first three readers say: whether a grant opens, the right asked
+/// for, and the contractor.
 fn read_check(answer: u32) -> (bool, u32, u32) {
     let opens = answer >= 1000;
     (opens, answer / 1000, if opens { answer % 1000 } else { 0 })
@@ -53,6 +54,7 @@ fn a_check_says_what_the_readers_say() {
                     Err(_) => (false, 0, 0),
                 };
                 assert_eq!(said, read_check(answer));
+                assert!([0, asked].contains(&said.1), "the right asked for");
             }
         }
     }

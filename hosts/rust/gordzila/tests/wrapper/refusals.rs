@@ -144,8 +144,9 @@ fn issuing_refuses_with_1_2_3_4_6_7_20() {
 
 #[test]
 fn checking_refuses_with_1_2_3_7_8_9_10_20_23() {
-    let (key, roll, mut grant) = ([1; 12], roll(), [0; 12]);
+    let (key, roll, mut grant, mut reading) = ([1; 12], roll(), [0; 12], [0; 12]);
     raw::issue(&key, 10, &roll, 7, 300, 2, &mut grant).unwrap();
+    raw::issue(&key, 10, &roll, 7, 300, 1, &mut reading).unwrap();
     let number = |key: &[u8], rounds, roll: &[u8], grant: &[u8], block, right| {
         raw::check_number(key, rounds, roll, grant, block, right)
     };
@@ -156,8 +157,8 @@ fn checking_refuses_with_1_2_3_7_8_9_10_20_23() {
     assert_eq!(number(&key, 10, &roll, &[0; 12], 0, 0), 7);
     assert_eq!(number(&key, 10, &roll, &[0; 12], 0, 1), 8);
     assert_eq!(number(&key, 11, &roll, &grant, 300, 2), 8);
-    assert_eq!(number(&key, 10, &[0; 400], &grant, 301, 1), 9);
-    assert_eq!(number(&key, 10, &[0; 400], &grant, 300, 1), 10);
+    assert_eq!(number(&key, 10, &[0; 400], &reading, 301, 2), 9);
+    assert_eq!(number(&key, 10, &[0; 400], &reading, 300, 2), 10);
     assert_eq!(number(&key, 10, &[0; 400], &grant, 300, 2), 20);
     let mut later = roll;
     later[13] = 3;

@@ -1,0 +1,46 @@
+-- A number that one try alone has: where it is given, that try's reason holds, and none before it does.
+use mathlib.Core.Path.{_≡_, refl, sym, ap, _∙_}
+use mathlib.Core.Bool.{Bool, true, false, _&&_, not, true≢false}
+use mathlib.Core.List.{List, [], _∷_, _++_}
+use Prim.Native.Nat.{ℕ, _<_}
+use native.Mathlib.Omega.{arith}
+use lib.Dec.{eqb}
+use borrow.Author.Tests.{eq-eqb}
+use Rattle.basics.proofs.Tests.{and-first, and-second}
+use Rattle.refusal.specs.Tries.{Try, _unless_, first, NoneHolds}
+use Rattle.refusal.proofs.Tries.{first-passes, first-holds}
+
+-- no try of a list has the number n: computed, where the numbers are written out
+abbrev pub others : ℕ → List Try → Bool
+others n [] = true
+others n (t ∷ ts) = not (eqb (t .number) n) && others n ts
+
+apart : (m n : ℕ) → not (eqb m n) ≡ true → m ≡ n → ⊥
+apart m n e h = true≢false (sym e ∙ ap not (eq-eqb m n h))
+
+not-given : (n : ℕ) → 0 < n → (ts : List Try) → others n ts ≡ true → first ts ≡ n → ⊥
+unfolding first
+not-given n h [] o e = omega (arith, h, e)
+not-given n h (t ∷ ts) o e = by (t .passes) refl (not-given n h ts (and-second (not (eqb (t .number) n)) (others n ts) o))
+  where
+    by : (b : Bool) → t .passes ≡ b → (first ts ≡ n → ⊥) → ⊥
+    by true p more = more (sym (first-passes t ts p) ∙ e)
+    by false p more = apart (t .number) n (and-first (not (eqb (t .number) n)) (others n ts) o) (sym (first-holds t ts p) ∙ e)
+
+module _ (n : ℕ) (h : 0 < n) (b : Bool) (ys : List Try) (after : others n ys ≡ true) where
+  -- a list in which the try stands after some others
+  abbrev with-it : List Try → List Try
+  with-it xs = xs ++ ((n unless b) ∷ ys)
+
+  pub given-by : (xs : List Try) → others n xs ≡ true → first (with-it xs) ≡ n → NoneHolds xs × (b ≡ false)
+  given-by [] o e = by b refl
+    where
+      by : (c : Bool) → b ≡ c → Unit {0} × (b ≡ false)
+      by true p = absurd (not-given n h ys after (sym (first-passes (n unless b) ys p) ∙ e))
+      by false p = (tt, p)
+  given-by (x ∷ xs) o e = by (x .passes) refl (given-by xs (and-second (not (eqb (x .number) n)) (others n xs) o))
+    where
+      by : (c : Bool) → x .passes ≡ c → (first (with-it xs) ≡ n → NoneHolds xs × (b ≡ false)) → NoneHolds (x ∷ xs) × (b ≡ false)
+      by true p more = let m = more (sym (first-passes x (with-it xs) p) ∙ e) in ((p, m .0), m .1)
+      by false p more =
+          absurd (apart (x .number) n (and-first (not (eqb (x .number) n)) (others n xs) o) (sym (first-holds x (with-it xs) p) ∙ e))
