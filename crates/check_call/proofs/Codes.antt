@@ -13,19 +13,13 @@ use Rattle.refusal.proofs.Tries.{first-before, first-then}
 use Rattle.refusal.proofs.Ladder.{all-pass}
 use Rattle.refusal.proofs.Answers.{answer-refused, answer-either}
 use Rattle.roll.proofs.Contractors.{a-contractor}
-use Rattle.grant.specs.declared.Right.{Right}
-use Rattle.grant.specs.declared.Right.the-variants.{Reading, Overwriting}
 use Rattle.grant.specs.declared.Verdict.{Verdict}
 use Rattle.grant.specs.declared.Verdict.the-variants.{Opens, Refused}
-use Rattle.grant.specs.Grants.{rightNumber, contractorIn, verdictNumber, verdictContractor, verdictRight}
+use Rattle.grant.specs.Grants.{contractorIn, verdictNumber, verdictContractor, verdictRight}
 use Rattle.judging.specs.Judging.{plainTries}
 use Rattle.grant.proofs.Tests.{a-grant}
 use Rattle.judging.proofs.Verdicts.{Tells}
 use Rattle.check_call.specs.CheckCall.{verdictCode}
-
-pub right-most : (r : Right) → rightNumber r ≤ 2
-right-most Reading = omega arith
-right-most Overwriting = omega arith
 
 -- a verdict on plain bytes names a contractor of at most 200, or none
 pub contractor-most : (p : List ℕ) (count block right : ℕ) (v : Verdict)
@@ -35,7 +29,7 @@ contractor-most p count block right v e =
     (λ z. a-contractor _ (a-grant p (all-pass (plainTries p count block right) refl z .0) .contractor) .most) (omega arith))
 
 -- a verdict's number, by its parts
-pub code-of : (v : Verdict) → verdictCode v ≡ answered (verdictNumber v) (1000 * verdictRight v + verdictContractor v) (verdictNumber v)
+code-of : (v : Verdict) → verdictCode v ≡ answered (verdictNumber v) (1000 * verdictRight v + verdictContractor v) (verdictNumber v)
 unfolding answered
 code-of (Opens g) = refl
 code-of (Refused r) = sym (ap (λ (b : Bool). cond b 0 (reasonNumber r)) (ne-eqb (reasonNumber r) 0 (λ e. omega (arith, reason-positive r, e))))

@@ -1,4 +1,4 @@
--- What the tests of a right say, and what a right covers.
+-- Rights: the two of them and their numbers, what the tests of a right say, and what a right covers.
 use mathlib.Core.Path.{_≡_, refl, sym, ap, _∙_}
 use mathlib.Core.Logic.{_⊎_, inl, inr}
 use mathlib.Core.Bool.{Bool, true, false, _&&_, _||_, false≢true}
@@ -6,10 +6,23 @@ use Prim.Native.Nat.{ℕ, _≤_, _<_}
 use native.Mathlib.Omega.{arith}
 use lib.Dec.{eqb}
 use borrow.Author.Tests.{eqb-true, ne-eqb}
-use Rattle.grant.specs.Grants.{isRight, covers}
+use Rattle.grant.specs.declared.Right.{Right}
+use Rattle.grant.specs.declared.Right.the-variants.{Reading, Overwriting}
+use Rattle.grant.specs.Grants.{rightNumber, isRight, covers}
 
--- ---- the two rights
-pub right-else : (r : ℕ) → (r ≡ 1 → ⊥) → eqb r 2 ≡ isRight r
+-- ---- the two rights and their numbers
+pub right-numbered : (r : Right) → (1 ≤ rightNumber r) × (rightNumber r ≤ 2)
+right-numbered Reading = (omega arith, omega arith)
+right-numbered Overwriting = (omega arith, omega arith)
+
+pub right-tells : (a b : Right) → rightNumber a ≡ rightNumber b → a ≡ b
+right-tells Reading Reading e = refl
+right-tells Overwriting Overwriting e = refl
+right-tells Reading Overwriting e = let z : ⊥ = omega (arith, e) in absurd z
+right-tells Overwriting Reading e = let z : ⊥ = omega (arith, e) in absurd z
+
+-- ---- numbers that are a right's
+right-else : (r : ℕ) → (r ≡ 1 → ⊥) → eqb r 2 ≡ isRight r
 right-else r h = sym (ap (λ (b : Bool). b || eqb r 2) (ne-eqb r 1 h))
 
 pub right-two : (r : ℕ) → isRight r ≡ true → (r ≡ 1 → ⊥) → r ≡ 2

@@ -12,11 +12,10 @@ use Rattle.refusal.specs.Tries.{first, answered}
 use Rattle.roll.specs.declared.Roll.{Roll}
 use Rattle.histories.specs.Histories.{Change, contractorOf, changed}
 use Rattle.histories.proofs.Counts.{changed-other}
-use Rattle.grant.specs.declared.Right as right
-use Rattle.grant.specs.declared.Right.the-variants.{Reading, Overwriting}
 use Rattle.grant.specs.declared.Verdict.{Verdict}
 use Rattle.grant.specs.declared.Verdict.the-variants.{Opens, Refused}
-use Rattle.grant.specs.Grants.{rightNumber, contractorIn, verdictNumber, verdictContractor, verdictRight}
+use Rattle.grant.specs.Grants.{contractorIn, verdictNumber, verdictContractor, verdictRight}
+use Rattle.grant.proofs.Rights.{right-tells}
 use Rattle.judging.specs.Judging.{inputTries, plainTries}
 use Rattle.checking.specs.Checking.{openedGrant, checkNumber, checkContractor, checkRight}
 use Rattle.revocation.specs.Claims.{SameCheck}
@@ -38,12 +37,6 @@ module _ (key : List ℕ) (rounds : ℕ) (roll : Roll) (grant : List ℕ) (block
   }
 
 -- ---- verdicts
-right-tells : (a b : right.Right) → rightNumber a ≡ rightNumber b → a ≡ b
-right-tells Reading Reading e = refl
-right-tells Overwriting Overwriting e = refl
-right-tells Reading Overwriting e = let z : ⊥ = omega (arith, e) in absurd z
-right-tells Overwriting Reading e = let z : ⊥ = omega (arith, e) in absurd z
-
 pub verdicts-told : (v w : Verdict)
     → verdictNumber v ≡ verdictNumber w → verdictContractor v ≡ verdictContractor w → verdictRight v ≡ verdictRight w → v ≡ w
 unfolding NumbersTellReasons

@@ -116,7 +116,7 @@ module _ (key : List ℕ) (rounds : ℕ) (roll : Roll) (contractor block right :
     pub room : 12 ≤ length w
     room = begins .0
 
-    pub first-twelve : take 12 w ≡ issuedGrant key rounds roll contractor block right
+    first-twelve : take 12 w ≡ issuedGrant key rounds roll contractor block right
     first-twelve = begins .1
 
   module _ (asked : ℕ) where

@@ -4,19 +4,19 @@ use Prim.Native.Nat.{ℕ, _+_, _*_}
 use native.Mathlib.Omega.{arith}
 use Rattle.grant.specs.Grants.{verdictContractor}
 use Rattle.check_call.specs.CheckCall.{verdictCode}
-use Rattle.check_call.proofs.Codes.{right-most}
+use Rattle.grant.proofs.Rights.{right-numbered}
 use borrow.Author.Needs.{needs}
 use Rattle.check_call.proofs.verdict_code.Statement.{statement}
 use Rattle.check_call.proofs.verdict_code.Tie as tie
 
 mul-result : tie.Need-mul-result
-mul-result c = omega (arith, c .right-number .ensures, right-most (c .before .before .verdict .given .0 .0 .right))
+mul-result c = omega (arith, c .right-number .ensures, right-numbered (c .before .before .verdict .given .0 .0 .right) .1)
 
 add-result : tie.Need-add-result
 add-result c = omega (
   arith,
   c .before .right-number .ensures,
-  right-most (c .before .before .before .verdict .given .0 .0 .right),
+  right-numbered (c .before .before .before .verdict .given .0 .0 .right) .1,
   ap verdictContractor
       (c .before .before .before .verdict .given .1),
   c .before .before .before .before .before .pre,
