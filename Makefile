@@ -1,4 +1,4 @@
-# make run    prove and build the library, and run the main job: a plotter's morning
+# make run    prove and build the library, and run the main job: a plotter's day
 # make test   every test; its last line is the prover's own 'N passed, 0 failed'
 # make reading    write the one page to read, target/reading.md: definitions, contracts of the public calls, claims
 # make vectors    write anew what the test programs read and have to print, from the independent program and the requirements

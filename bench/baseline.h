@@ -2,8 +2,9 @@
  * The calls of a C baseline of the benchmark. They take the same arguments and
  * give the same answers as those of the proved library: 0, or the number of the
  * reason for which a call refuses; a check that opens gives 1,000 times the
- * right asked for plus the contractor. A call that refuses leaves the output as
- * it was.
+ * right asked for plus the contractor. Of a queue, each grant has a byte: 0 if it
+ * opens, or the number for which a check of it refuses. A call that refuses
+ * leaves the output as it was.
  *
  * Each C file is compiled once for every compiler and set of flags, and gives
  * out one struct baseline, under the name that -DBASELINE=... chooses.
@@ -23,7 +24,8 @@ enum {
     MOST_ROUNDS = 23,
     MOST_LIST = BLOCK * (MOST_ROUNDS + 1),
     CONTRACTORS = 200,
-    ROLL = 2 * CONTRACTORS
+    ROLL = 2 * CONTRACTORS,
+    MOST_GRANTS = 64
 };
 
 enum answer {
@@ -67,6 +69,17 @@ typedef uint32_t check_call(const uint8_t *key, size_t key_len,
                             const uint8_t *grant, size_t grant_len,
                             uint32_t size_block, uint32_t right);
 
+/*
+ * Up to 64 grants of 12 bytes, with key set-up done once, against a roll of 400
+ * bytes: a byte for each.
+ */
+typedef uint32_t queue_call(const uint8_t *key, size_t key_len,
+                            uint32_t rounds,
+                            const uint8_t *roll, size_t roll_len,
+                            const uint8_t *grants, size_t grants_len,
+                            uint32_t size_block, uint32_t right,
+                            uint8_t *answers, size_t answers_len);
+
 struct baseline {
     cipher_call *encipher;
     cipher_call *decipher;
@@ -74,6 +87,7 @@ struct baseline {
     prepare_call *prepare_deciphering;
     run_call *run;
     check_call *check;
+    queue_call *check_queue;
 };
 
 extern const struct baseline BASELINE;

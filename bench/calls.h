@@ -51,6 +51,11 @@ static bool is_list_length(size_t n)
     return n >= BLOCK * (LEAST_ROUNDS + 1) && n <= MOST_LIST && n % BLOCK == 0;
 }
 
+static bool is_queue_length(size_t n)
+{
+    return n <= BLOCK * MOST_GRANTS && n % BLOCK == 0;
+}
+
 static bool is_right(uint32_t right)
 {
     return right == READING || right == OVERWRITING;
@@ -196,11 +201,43 @@ static uint32_t check(const uint8_t *key, size_t key_len, uint32_t rounds,
     return check_plain(plain, roll, size_block, right);
 }
 
+/* The checks of a queue of grants: the list is prepared once for all of them. */
+static uint32_t check_queue(const uint8_t *key, size_t key_len,
+                            uint32_t rounds,
+                            const uint8_t *roll, size_t roll_len,
+                            const uint8_t *grants, size_t grants_len,
+                            uint32_t size_block, uint32_t right,
+                            uint8_t *answers, size_t answers_len)
+{
+    uint32_t refusal = check_key(key_len, rounds);
+    uint8_t list[MOST_LIST];
+    uint8_t plain[BLOCK];
+
+    if (refusal != DONE)
+        return refusal;
+    if (!is_queue_length(grants_len) || roll_len != ROLL)
+        return INPUT_LENGTH;
+    if (answers_len < grants_len / BLOCK)
+        return OUTPUT_TOO_SHORT;
+    if (!is_right(right))
+        return RIGHT;
+    fill_list(DECIPHERING, key, key_len, rounds, list);
+    for (size_t i = 0; i < grants_len / BLOCK; i++) {
+        uint32_t answer;
+
+        run_list(list, rounds, grants + BLOCK * i, plain);
+        answer = check_plain(plain, roll, size_block, right);
+        answers[i] = answer < 1000 ? (uint8_t)answer : DONE;
+    }
+    return DONE;
+}
+
 const struct baseline BASELINE = {
     .encipher = encipher,
     .decipher = decipher,
     .prepare_enciphering = prepare_enciphering,
     .prepare_deciphering = prepare_deciphering,
     .run = run,
-    .check = check
+    .check = check,
+    .check_queue = check_queue
 };

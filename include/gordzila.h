@@ -7,19 +7,25 @@
  * Rules for every call:
  *  - Bytes are lent as a pointer and a length. The pointer is never null, also where the length is 0, and points to at
  *    least as many bytes as the length says. The library keeps no pointer after the call.
- *  - What a call writes to (out, the roll that it enters or withdraws on, or the holder that it steps or walks) overlaps nothing
- *    else that is lent to it. What it only reads may overlap.
+ *  - What a call writes to (out, answers, the roll that it enters or withdraws on, or the holder that it steps or walks) overlaps
+ *    nothing else that is lent to it. What it only reads may overlap.
  *  - A call takes any lengths and numbers. Where they are wrong, it refuses with a number and writes nothing. Where more than
  *    one reason holds, it gives the first in the order that stands with the call.
  *  - Every call but gordzila_check and gordzila_holder_walk returns 0 where it does not refuse. These two never return 0: a refusal
- *    is 1 to 24, and any other answer 1000 or more.
- *  - Where it does not refuse, it writes the bytes that are said below, from the start of out, and no byte after them; entering
- *    and withdrawing write the roll's 400 bytes, steps and walks the holder's 26.
- *  - A withdrawal is seen only on the roll on which it was made. Hand gordzila_check the roll as it is now: on an older copy, or
- *    on a roll that starts anew from zeros, grants that were revoked may open.
+ *    is 1 to 24, and any other answer 1000 or more. gordzila_check_queue returns 0 whether or not a grant of its queue opens; that
+ *    stands in answers.
+ *  - Where it does not refuse, it writes the bytes that are said below, from the start of out or answers, and no byte after them;
+ *    entering and withdrawing write the roll's 400 bytes, steps and walks the holder's 26.
+ *  - A withdrawal is seen only on the roll on which it was made. Hand gordzila_check and gordzila_check_queue the roll as it is now:
+ *    on an older copy, or on a roll that starts anew from zeros, grants that were revoked may open.
  *  - The calls have no state of their own and may be made from any thread. While a call writes to bytes, no other call may have
  *    them lent: rooms or threads that share a roll make their calls on it one after the other.
  *  - Their time depends on the key and the data: they are not made to resist an observer of time.
+ *
+ * Changes in 0.4.0, for hosts that were written for 0.3:
+ *  - gordzila_check_queue is new: it checks 0 to 64 grants for one size block in one call. A box that checks them one by one may go
+ *    on so, and gets the same verdicts.
+ *  - Reasons 3 and 4 have its lengths too. No other call changed, and no constant its name or number.
  *
  * Changes in 0.3.0, for hosts that were written for 0.2:
  *  - An overwriting grant also opens its size block for reading, whenever it was issued. A host that took 10 as the answer where an
@@ -45,8 +51,8 @@ enum {
     /* found in the input */
     GORDZILA_KEY_LENGTH = 1,       /* key not 12, 18 or 24 bytes */
     GORDZILA_ROUND_COUNT = 2,      /* round count not 10..11, 14..17 or 18..23, by the key's length */
-    GORDZILA_INPUT_LENGTH = 3,     /* block or grant not 12 bytes; roll not 400 bytes */
-    GORDZILA_OUTPUT_TOO_SHORT = 4, /* out shorter than what is to be written */
+    GORDZILA_INPUT_LENGTH = 3,     /* block or grant not 12 bytes; roll not 400 bytes; queue of grants over 768 bytes, or no multiple of 12 */
+    GORDZILA_OUTPUT_TOO_SHORT = 4, /* out shorter than what is to be written; answers shorter than the number of grants */
     GORDZILA_STAGE_OR_LIST = 5,    /* stage number not below the key's length in bytes; subkey list under 132 bytes, over 288, or no multiple of 12 */
     GORDZILA_CONTRACTOR = 6,       /* contractor outside 1 to 200 */
     GORDZILA_RIGHT = 7,            /* right neither 1 nor 2 */
@@ -72,6 +78,9 @@ enum { GORDZILA_BLOCK_BYTES = 12, GORDZILA_GRANT_BYTES = 12, GORDZILA_ROLL_BYTES
 enum { GORDZILA_STAGE_BYTES = 24, GORDZILA_SUBKEY_BYTES = 12, GORDZILA_LONGEST_LIST_BYTES = 288 };
 enum { GORDZILA_HOLDER_BYTES = 26 };
 
+/* The longest queue, in grants and in bytes. */
+enum { GORDZILA_QUEUE_MOST_GRANTS = 64, GORDZILA_LONGEST_QUEUE_BYTES = 768 };
+
 /*
  * Checks a grant for one size block and one right. A reading grant opens its size block where reading is asked for, an
  * overwriting grant where reading or overwriting is.
@@ -90,6 +99,37 @@ uint32_t gordzila_check(const uint8_t *key, size_t key_length, uint32_t rounds, 
 static inline int gordzila_opens(uint32_t answer) { return answer >= 1000; }
 static inline uint32_t gordzila_answered_right(uint32_t answer) { return answer / 1000; }
 static inline uint32_t gordzila_answered_contractor(uint32_t answer) { return gordzila_opens(answer) ? answer % 1000 : 0; }
+
+/*
+ * The morning queue: checks 0 to 64 grants for one size block and one right, on one roll.
+ *
+ * grants: one grant after the other, 12 bytes each, so that the length is a multiple of 12 up to 768. answers: at least one byte for
+ * each grant.
+ *
+ * Returns the number of the first of these reasons that holds: 1, 2, 3 (roll, or grants over 768 bytes or no multiple of 12),
+ * 4 (answers shorter than the number of grants), 7. They refuse the whole call, and nothing is written. 65 grants are 3, however long
+ * answers is.
+ *
+ * Otherwise it returns 0, and answers has one byte for each grant, in their order: 0 if the grant opens, else the number with which
+ * gordzila_check refuses it, which is 8, 9, 10, 20 or 23. A grant that is refused does not stop those after it. Bytes of answers past
+ * the number of grants stay. Take every byte but 0 for a refusal: later versions may have more numbers.
+ *
+ * Without grants it returns 0 and writes nothing, where the other arguments are right: with right 3 it returns 7 all the same. As
+ * for every call, the pointers are not null even then.
+ *
+ * Beware of 0. A byte of 0 opens, but gordzila_check never answers 0, and what opens there is 1000 or more: never hand a byte to
+ * gordzila_opens. A return of 0 does not say that a grant opens, only that each has its byte. And where the call refuses, answers
+ * keeps what stood there: had the host cleared it, each byte would look like a grant that opens. gordzila_queue_opens takes what the
+ * call returned and a byte of answers, and asks for both to be 0.
+ *
+ * The contractor is not answered. Who needs it hands that grant to gordzila_check.
+ */
+uint32_t gordzila_check_queue(const uint8_t *key, size_t key_length, uint32_t rounds, const uint8_t *roll, size_t roll_length,
+                              const uint8_t *grants, size_t grants_length, uint32_t size_block, uint32_t right,
+                              uint8_t *answers, size_t answers_length);
+
+/* Of what gordzila_check_queue returned, and of a grant's byte in answers: whether the grant opens. */
+static inline int gordzila_queue_opens(uint32_t returned, uint8_t byte) { return returned == 0 && byte == 0; }
 
 /*
  * The roll. Each returns 0, or the number of the first reason that holds.

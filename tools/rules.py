@@ -11,6 +11,9 @@ import sys
 # key bytes: least and most rounds
 ROUNDS = {12: (10, 11), 18: (14, 17), 24: (18, 23)}
 
+# what the plain bytes of a grant end with
+MARK = 0x475244
+
 
 def orders():
     """The order of each call by value, from tools/orders.txt."""
@@ -33,6 +36,10 @@ def first(call, holds):
     return next((number for number in ORDERS[call] if holds[number]), 0)
 
 
+def on_roll(contractor):
+    return 1 <= contractor <= 200
+
+
 def wrong_key(key):
     return key not in ROUNDS
 
@@ -50,6 +57,17 @@ def wrong_stage(key, stage):
 
 def stands(count):
     return count % 2 == 1 and count < 65535
+
+
+def plain_reasons(now, right, contractor, written, block, granted, mark):
+    """What holds of a grant's plain bytes, asked for size block 300 and a right, where its contractor's count is now."""
+    return {
+        8: mark != MARK or not on_roll(contractor) or granted not in (1, 2),
+        9: block != 300,
+        10: granted == 1 and right == 2,
+        20: not stands(now),
+        23: written != now,
+    }
 
 
 def rows(right, reasons, faults, limits):

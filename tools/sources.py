@@ -9,7 +9,7 @@ import shutil
 
 HERE = pathlib.Path(__file__).resolve().parent.parent
 
-# Document 01, "What the store calls".
+# Document 01, "What the store calls", and what requests add to it.
 CALLS = {
     "cipher": ["encipher", "decipher"],
     "lists": ["prepare"],
@@ -21,6 +21,7 @@ CALLS = {
     "roll_changes": ["enter", "withdraw"],
     "issuing": ["issue"],
     "checking": ["check"],
+    "queue": ["check"],
 }
 
 # A function: what stands before its name on the line, its name, the words of its contract's clauses, the comment above it, and its signature

@@ -1,6 +1,7 @@
 //! The comparison of the implementations, before anything is timed.
 
 mod checks;
+mod queues;
 mod refusals;
 
 use curupira_reference::cipher::{allowed_rounds, decrypt, decryption_keys, encrypt, encrypt_with};
@@ -44,12 +45,15 @@ pub fn check() -> Result<(), String> {
     let lists = check_lists(&mut generator)?;
     let refusals = refusals::check(&mut generator)?;
     let (grants, opened) = checks::check(&mut generator)?;
+    let (queues, queued, opening) = queues::check(&mut generator)?;
     let ciphers = check_others(&mut generator)?;
     println!("agreement of the library and all C baselines on");
     print_tally("keys and blocks", &keys);
     print_tally("arbitrary lists", &lists);
     print_tally("calls with right and wrong lengths and numbers", &refusals);
     print_tally(&format!("grants, of which {opened} open"), &grants);
+    let answered = format!("queues, with {queued} grants, of which {opening} open");
+    print_tally(&answered, &queues);
     if ciphers > 0 {
         println!("each cipher of libtomcrypt undoes what it does, and passes its own test");
     }
@@ -61,7 +65,7 @@ fn print_tally(what: &str, tally: &Tally) {
         inputs,
         independent,
     } = tally;
-    println!("  {inputs:>6} {what}; the independent program on {independent} of them");
+    println!("  {inputs:>7} {what}; the independent program on {independent} of them");
 }
 
 /// Random keys and blocks for all sizes that are allowed.
@@ -189,6 +193,11 @@ fn done(bytes: &[u8], out_length: usize) -> Answer {
     let mut out = vec![UNTOUCHED; out_length];
     out[..bytes.len()].copy_from_slice(bytes);
     (0, out)
+}
+
+/// The answer of a call that refuses with a number.
+fn refused(number: u32, out_length: usize) -> Answer {
+    (number, vec![UNTOUCHED; out_length])
 }
 
 /// What the library answers, if every C baseline answers the same.

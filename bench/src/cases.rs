@@ -23,6 +23,14 @@ const CALLS: usize = 256;
 /// The same for the independent program, which is slow.
 const INDEPENDENT_CALLS: usize = 2;
 
+/// The grants of a queue, as many as there can be, and the calls with it in one sample.
+/// Together they are as many checks as in a sample of single ones.
+const QUEUE_GRANTS: usize = 64;
+const QUEUE_CALLS: usize = CALLS / QUEUE_GRANTS;
+
+/// The name of the row that has the library's single checks of the grants of a queue.
+pub const SINGLES: &str = "library, 64 single checks";
+
 /// A function that makes as many calls as it is told to.
 type Batch = Box<dyn FnMut(usize)>;
 
@@ -33,17 +41,19 @@ pub enum Operation {
     RunDeciphering,
     Decipher,
     Check,
+    Queue,
     PrepareEnciphering,
     PrepareDeciphering,
 }
 
 impl Operation {
-    pub const ALL: [Operation; 7] = [
+    pub const ALL: [Operation; 8] = [
         Operation::RunEnciphering,
         Operation::Encipher,
         Operation::RunDeciphering,
         Operation::Decipher,
         Operation::Check,
+        Operation::Queue,
         Operation::PrepareEnciphering,
         Operation::PrepareDeciphering,
     ];
@@ -56,6 +66,7 @@ impl Operation {
             Operation::RunDeciphering => ["decipher", "list"],
             Operation::Decipher => ["decipher", "key"],
             Operation::Check => ["check", "key"],
+            Operation::Queue => ["queue", "64"],
             Operation::PrepareEnciphering => ["prepare", "encipher"],
             Operation::PrepareDeciphering => ["prepare", "decipher"],
         }
@@ -111,23 +122,27 @@ impl Contender {
 struct Inputs {
     block: Vec<u8>,
     question: Question,
+    queue: Question,
 }
 
 /// All implementations of an operation, in the order of the table's rows. The
 /// library is the first; other ciphers, which have some operations only, are last.
 pub fn contenders(operation: Operation, size: Size) -> Vec<Contender> {
     let inputs = draw_inputs(size);
-    let c = |interface| c_batch(interface, operation, &inputs);
-    let mut all = vec![Contender::new("library", CALLS, c(LIBRARY))];
-    for baseline in baselines() {
-        all.push(Contender::new(baseline.name, CALLS, c(baseline.interface)));
-    }
-    let independent = independent_batch(operation, &inputs).expect("the size is allowed");
-    all.push(Contender::new(
-        "independent Rust",
-        INDEPENDENT_CALLS,
-        independent,
-    ));
+    let calls = match operation {
+        Operation::Queue => QUEUE_CALLS,
+        _ => CALLS,
+    };
+    let c = |name, interface| Contender::new(name, calls, c_batch(interface, operation, &inputs));
+    let mut all = vec![c("library", LIBRARY)];
+    all.extend(baselines().iter().map(|one| c(one.name, one.interface)));
+    all.push(match operation {
+        Operation::Queue => Contender::new(SINGLES, calls, singles(LIBRARY, inputs.queue)),
+        _ => {
+            let batch = independent_batch(operation, &inputs).expect("the size is allowed");
+            Contender::new("independent Rust", INDEPENDENT_CALLS, batch)
+        }
+    });
     let others = others::ciphers(size.key_length);
     all.extend(others.into_iter().filter_map(|one| other(one, operation)));
     all
@@ -138,15 +153,20 @@ fn draw_inputs(size: Size) -> Inputs {
     let mut generator = Generator::new(SEED);
     let question = Question::that_opens(&mut generator, size.key_length, size.rounds);
     assert!(LIBRARY.check(&question) >= 1000, "the grant opens");
+    let Size { key_length, rounds } = size;
+    let queue = Question::queue_that_opens(&mut generator, key_length, rounds, QUEUE_GRANTS);
+    let mut answers = [u8::MAX; QUEUE_GRANTS];
+    assert_eq!(LIBRARY.check_queue(&queue, &mut answers), 0);
+    assert_eq!(answers, [0; QUEUE_GRANTS], "the grants of the queue open");
     Inputs {
         block: generator.bytes(BLOCK_BYTES),
         question,
+        queue,
     }
 }
 
 fn c_batch(interface: Interface, operation: Operation, inputs: &Inputs) -> Batch {
-    let Inputs { block, question } = inputs;
-    let (block, question) = (block.clone(), question.clone());
+    let (block, question) = (inputs.block.clone(), inputs.question.clone());
     let (key, rounds) = (question.key.clone(), question.rounds);
     let mut list = vec![0; BLOCK_BYTES * (rounds as usize + 1)];
     match operation {
@@ -165,6 +185,7 @@ fn c_batch(interface: Interface, operation: Operation, inputs: &Inputs) -> Batch
             interface.decipher(black_box(&key), rounds, block, out)
         }),
         Operation::Check => repeat(move || interface.check(black_box(&question))),
+        Operation::Queue => c_queue(interface, inputs.queue.clone()),
         Operation::PrepareEnciphering => repeat(move || {
             interface.prepare_enciphering(black_box(&key), rounds, black_box(&mut list))
         }),
@@ -181,6 +202,23 @@ fn c_run(interface: Interface, list: Vec<u8>, block: Vec<u8>) -> Batch {
     })
 }
 
+/// A queue, all of it in each call.
+fn c_queue(interface: Interface, queue: Question) -> Batch {
+    let mut answers = [0; QUEUE_GRANTS];
+    repeat(move || interface.check_queue(black_box(&queue), black_box(&mut answers)))
+}
+
+/// The grants of a queue checked one by one, all of them for each call of a queue.
+fn singles(interface: Interface, queue: Question) -> Batch {
+    repeat(move || {
+        for grant in black_box(&queue).grants.chunks(BLOCK_BYTES) {
+            black_box(interface.check_one(black_box(&queue), grant));
+        }
+    })
+}
+
+/// The independent program. It is not timed on a queue, where it checks the grants one
+/// by one.
 fn independent_batch(operation: Operation, inputs: &Inputs) -> Result<Batch, Error> {
     let question = inputs.question.clone();
     let block = inputs.block.clone();
@@ -200,6 +238,7 @@ fn independent_batch(operation: Operation, inputs: &Inputs) -> Result<Batch, Err
             let roll = question.independent_roll().expect("the roll is one");
             repeat(move || black_box(&question).independent_answer(black_box(&roll)))
         }
+        Operation::Queue => unreachable!("the independent program is not timed on a queue"),
         Operation::PrepareEnciphering => repeat(move || round_subkeys(black_box(&key), rounds)),
         Operation::PrepareDeciphering => repeat(move || {
             round_subkeys(black_box(&key), rounds).and_then(|subkeys| decryption_keys(&subkeys))

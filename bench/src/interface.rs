@@ -22,7 +22,21 @@ type CheckCall = unsafe extern "C" fn(
     u32,
 ) -> u32;
 
-/// The six calls, in the order of `struct baseline` in baseline.h. Each answers 0,
+type QueueCall = unsafe extern "C" fn(
+    *const u8,
+    usize,
+    u32,
+    *const u8,
+    usize,
+    *const u8,
+    usize,
+    u32,
+    u32,
+    *mut u8,
+    usize,
+) -> u32;
+
+/// The seven calls, in the order of `struct baseline` in baseline.h. Each answers 0,
 /// or the number of a refusal, or, for a check that opens, 1000 or more.
 #[repr(C)]
 #[derive(Clone, Copy)]
@@ -33,6 +47,7 @@ pub struct Interface {
     prepare_deciphering: PrepareCall,
     run: RunCall,
     check: CheckCall,
+    check_queue: QueueCall,
 }
 
 extern "C" {
@@ -87,6 +102,19 @@ extern "C" {
         size_block: u32,
         right: u32,
     ) -> u32;
+    fn gordzila_check_queue(
+        key: *const u8,
+        key_length: usize,
+        rounds: u32,
+        roll: *const u8,
+        roll_length: usize,
+        grants: *const u8,
+        grants_length: usize,
+        size_block: u32,
+        right: u32,
+        answers: *mut u8,
+        answers_length: usize,
+    ) -> u32;
 }
 
 pub const LIBRARY: Interface = Interface {
@@ -96,6 +124,7 @@ pub const LIBRARY: Interface = Interface {
     prepare_deciphering: gordzila_prepare_deciphering,
     run: gordzila_run,
     check: gordzila_check,
+    check_queue: gordzila_check_queue,
 };
 
 // What the C files give out, once for every compiler and set of flags.
@@ -108,13 +137,16 @@ extern "C" {
     static table_scalar: Interface;
 }
 
+/// The name of the baseline that the targets are set against.
+pub const PLAIN: &str = "plain C";
+
 /// A C file under one compiler and one set of flags.
 pub struct Baseline {
     pub name: &'static str,
     pub interface: Interface,
 }
 
-/// The baselines. The first is plain C, which the targets are set against.
+/// The baselines. The first is plain C.
 pub fn baselines() -> Vec<Baseline> {
     let one = |name, interface: &Interface| Baseline {
         name,
@@ -123,7 +155,7 @@ pub fn baselines() -> Vec<Baseline> {
     // The structures are constant, and their calls have the types above.
     unsafe {
         vec![
-            one("plain C", &plain_c),
+            one(PLAIN, &plain_c),
             one("plain C, no SLP", &plain_scalar),
             #[cfg(bench_clang)]
             one("plain C, clang", &plain_clang),
@@ -170,8 +202,15 @@ impl Interface {
         }
     }
 
+    /// A check of the grant that is asked about.
     #[inline(always)]
     pub fn check(&self, question: &Question) -> u32 {
+        self.check_one(question, &question.grants)
+    }
+
+    /// The same of one grant, whichever the question has.
+    #[inline(always)]
+    pub fn check_one(&self, question: &Question, grant: &[u8]) -> u32 {
         unsafe {
             (self.check)(
                 question.key.as_ptr(),
@@ -179,10 +218,30 @@ impl Interface {
                 question.rounds,
                 question.roll.as_ptr(),
                 question.roll.len(),
-                question.grant.as_ptr(),
-                question.grant.len(),
+                grant.as_ptr(),
+                grant.len(),
                 question.size_block,
                 question.right,
+            )
+        }
+    }
+
+    /// A check of the grants that are asked about, as a queue.
+    #[inline(always)]
+    pub fn check_queue(&self, question: &Question, answers: &mut [u8]) -> u32 {
+        unsafe {
+            (self.check_queue)(
+                question.key.as_ptr(),
+                question.key.len(),
+                question.rounds,
+                question.roll.as_ptr(),
+                question.roll.len(),
+                question.grants.as_ptr(),
+                question.grants.len(),
+                question.size_block,
+                question.right,
+                answers.as_mut_ptr(),
+                answers.len(),
             )
         }
     }

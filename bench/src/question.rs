@@ -1,8 +1,8 @@
-//! What a check of a grant is asked: a key, a roll, a grant, a size block and a
-//! right.
+//! What a check is asked: a key, a roll, a grant or a queue of them, a size block and
+//! a right.
 
 use curupira_reference::generator::Generator;
-use curupira_reference::roll::{Grant, Roll, CONTRACTORS};
+use curupira_reference::roll::{Grant, Roll, CONTRACTORS, READING};
 
 use crate::interface::LIBRARY;
 
@@ -14,7 +14,8 @@ pub struct Question {
     pub key: Vec<u8>,
     pub rounds: u32,
     pub roll: Vec<u8>,
-    pub grant: Vec<u8>,
+    /// A grant, or the grants of a queue, one after the other.
+    pub grants: Vec<u8>,
     pub size_block: u32,
     pub right: u32,
 }
@@ -26,12 +27,39 @@ impl Question {
         let grant = draw_grant(generator, &mut counts);
         let key = generator.bytes(key_length);
         Question {
-            grant: enciphered(&key, rounds, &grant.plain_bytes()),
+            grants: enciphered(&key, rounds, &grant.plain_bytes()),
             key,
             rounds,
             roll: roll_bytes(&counts),
             size_block: grant.block,
             right: u32::from(grant.right),
+        }
+    }
+
+    /// A queue of so many grants that all open for reading: some are for reading, and
+    /// some for overwriting.
+    pub fn queue_that_opens(
+        generator: &mut Generator,
+        key_length: usize,
+        rounds: u32,
+        grants: usize,
+    ) -> Self {
+        let mut counts = draw_counts(generator);
+        let key = generator.bytes(key_length);
+        let size_block = draw_number(generator, 4);
+        let draw = |_| {
+            let mut grant = draw_grant(generator, &mut counts);
+            grant.block = size_block;
+            enciphered(&key, rounds, &grant.plain_bytes())
+        };
+        let grants = (0..grants).flat_map(draw).collect();
+        Question {
+            key,
+            rounds,
+            roll: roll_bytes(&counts),
+            grants,
+            size_block,
+            right: u32::from(READING),
         }
     }
 
@@ -53,9 +81,21 @@ impl Question {
     pub fn independent_answer(&self, roll: &Roll) -> Option<u32> {
         let right = u8::try_from(self.right).ok()?;
         let rounds = self.rounds as usize;
-        let checked = roll.check(&self.key, rounds, &self.grant, self.size_block, right);
+        let checked = roll.check(&self.key, rounds, &self.grants, self.size_block, right);
         Some(match checked {
             Ok(accepted) => 1000 * u32::from(accepted.right) + u32::from(accepted.contractor),
+            Err(refusal) => u32::from(refusal.number()),
+        })
+    }
+
+    /// The same for a queue, with what it writes to the answers.
+    pub fn independent_queue(&self, roll: &Roll, answers: &mut [u8]) -> Option<u32> {
+        let right = u8::try_from(self.right).ok()?;
+        let rounds = self.rounds as usize;
+        let (grants, size_block) = (&self.grants, self.size_block);
+        let checked = roll.check_queue(&self.key, rounds, grants, size_block, right, answers);
+        Some(match checked {
+            Ok(()) => 0,
             Err(refusal) => u32::from(refusal.number()),
         })
     }

@@ -1,7 +1,8 @@
 //! Prints the tables: for each size the median times, and the library's times as
 //! multiples of the others.
 
-use crate::cases::{contenders, Contender, Operation, Size, SIZES};
+use crate::cases::{contenders, Contender, Operation, Size, SINGLES, SIZES};
+use crate::interface::PLAIN;
 use crate::timing::{measure, Times};
 
 /// The width of the names of the rows.
@@ -30,6 +31,7 @@ pub fn print(samples: usize) {
         print_times(&rows);
         print_ratios("library's time / this time, medians", &rows, |t| t.median);
         print_ratios("library's time / this time, least", &rows, |t| t.least);
+        print_queue(&rows);
     }
 }
 
@@ -87,6 +89,25 @@ fn print_ratios(title: &str, rows: &[Row], time: impl Fn(&Times) -> f64) {
             _ => String::new(),
         });
         print_line(&format!("  {}", row.name), cells);
+    }
+}
+
+/// The ratios of a queue for which there is a target, with the target. They stand in
+/// the ratios above too.
+fn print_queue(rows: &[Row]) {
+    let column = Operation::ALL
+        .iter()
+        .position(|&one| one == Operation::Queue);
+    let column = column.expect("a queue is an operation");
+    let times = |row: &Row| row.cells[column].as_ref().map(|cell| cell.times);
+    let own = times(&rows[0]).expect("the library is timed");
+    println!("the library's queue of 64 / this, by medians and by least times, and the target");
+    for (name, target) in [(SINGLES, "0.6"), (PLAIN, "1.0")] {
+        let row = rows.iter().find(|row| row.name == name);
+        let other = row.and_then(times).expect("what has a target is timed");
+        let ratios = [own.median / other.median, own.least / other.least].map(ratio);
+        let cells = ratios.into_iter().chain([format!("<= {target}")]);
+        print_line(&format!("  {name}"), cells);
     }
 }
 

@@ -1,8 +1,8 @@
 /*
- * Lends every buffer of every call, but of those on a key holder (holder_bounds.c), between two pages that may not be touched:
- * once right after the first, once right before the second (guard.h). Lengths and numbers lie on both sides of each limit; the
- * answer has to be the first reason in the header's order that holds, and nothing may change but what a call that does not refuse
- * writes.
+ * Lends every buffer of every call, but of those on a key holder (holder_bounds.c) and of the queue (queue_bounds.c), between two
+ * pages that may not be touched: once right after the first, once right before the second (guard.h). Lengths and numbers lie on
+ * both sides of each limit; the answer has to be the first reason in the header's order that holds (rules.h), and nothing may
+ * change but what a call that does not refuse writes.
  *
  * Of each of 11 keys with each of 13 round counts there are 25 lengths of input and output for 2 directions, 3 outputs for 2 lists, and
  * 100 issues (5 rights, 4 rolls, 5 outputs) with 5 checks each: 143 * 656. Of the 6 of these pairs that are right there are 5 grants
@@ -11,6 +11,7 @@
  * 2 * (93,808 + 930 + 1,100 + 275 + 48) are 192,322 calls. Prints how many did what they have to; the status is 1 where one did not.
  */
 #include "guard.h"
+#include "rules.h"
 
 static const size_t key_lengths[] = {0, 1, 11, 12, 13, 17, 18, 19, 23, 24, 25};
 static const uint32_t round_counts[] = {0, 9, 10, 11, 12, 13, 14, 17, 18, 23, 24, 266, 0xffffffffu};
@@ -34,22 +35,10 @@ static void lend_count(uint8_t count, size_t length) {
 
 static void lend_roll(size_t length) { lend_count(1, length); }
 
-/* The reasons that hold of a key and a round count, in the header's order. */
-static uint32_t of_key(void) { return key.length == 12 || key.length == 18 || key.length == 24 ? 0 : GORDZILA_KEY_LENGTH; }
-
-static uint32_t of_rounds(uint32_t rounds) {
-    uint32_t t = (uint32_t)key.length / 6;
-    uint32_t least = t == 2 ? 10 : 4 * t + 2;
-    uint32_t most = t == 2 ? 11 : t == 3 ? 17 : 23;
-    return of_key() != 0 ? of_key() : rounds < least || rounds > most ? (uint32_t)GORDZILA_ROUND_COUNT : 0;
-}
-
-static uint32_t then(uint32_t earlier, int holds, uint32_t number) { return earlier != 0 ? earlier : holds ? number : 0; }
-
 static void cipher(uint32_t rounds) {
     for (size_t i = 0; i < COUNT(small_lengths); i++) {
         for (size_t o = 0; o < COUNT(small_lengths); o++) {
-            uint32_t expected = then(of_rounds(rounds), small_lengths[i] != 12, GORDZILA_INPUT_LENGTH);
+            uint32_t expected = then(of_rounds(key.length, rounds), small_lengths[i] != 12, GORDZILA_INPUT_LENGTH);
             expected = then(expected, small_lengths[o] < 12, GORDZILA_OUTPUT_TOO_SHORT);
             lend_any(&input, small_lengths[i]);
             lend_any(&out, small_lengths[o]);
@@ -65,7 +54,7 @@ static void cipher(uint32_t rounds) {
 static void prepare(uint32_t rounds) {
     size_t need = rounds < 24 ? 12 * ((size_t)rounds + 1) : 288;
     for (size_t o = need - 1; o <= need + 1; o++) {
-        uint32_t expected = then(of_rounds(rounds), o < need, GORDZILA_OUTPUT_TOO_SHORT);
+        uint32_t expected = then(of_rounds(key.length, rounds), o < need, GORDZILA_OUTPUT_TOO_SHORT);
         lend_any(&out, o);
         judge("prepare_enciphering", gordzila_prepare_enciphering(key.at, key.length, rounds, out.at, out.length), expected,
               &out, need);
@@ -74,11 +63,6 @@ static void prepare(uint32_t rounds) {
               &out, need);
     }
 }
-
-static int is_right(uint32_t right) { return right == GORDZILA_READING || right == GORDZILA_OVERWRITING; }
-
-/* The one case in which a grant for the size block does not open it for the right asked for. */
-static int falls_short(uint32_t in_grant, uint32_t asked) { return in_grant == GORDZILA_READING && asked == GORDZILA_OVERWRITING; }
 
 /* One check, for contractor 7. Where no reason holds, the answer has the right asked for, whichever the grant has. */
 static void check(uint32_t rounds, uint32_t block, uint32_t asked, uint32_t expected) {
@@ -89,7 +73,7 @@ static void check(uint32_t rounds, uint32_t block, uint32_t asked, uint32_t expe
 
 /* Checks the bytes that an issue for a right has left, for each right. Where the right was none, they are no grant. */
 static void check_issued(uint32_t rounds, uint32_t issued) {
-    uint32_t start = then(of_rounds(rounds), roll.length != 400 || input.length != 12, GORDZILA_INPUT_LENGTH);
+    uint32_t start = then(of_rounds(key.length, rounds), roll.length != 400 || input.length != 12, GORDZILA_INPUT_LENGTH);
     for (size_t i = 0; i < COUNT(rights); i++) {
         uint32_t expected = then(start, !is_right(rights[i]), GORDZILA_RIGHT);
         expected = then(expected, !is_right(issued), GORDZILA_NOT_A_GRANT);
@@ -101,7 +85,7 @@ static void check_issued(uint32_t rounds, uint32_t issued) {
 static void grant(uint32_t rounds, uint32_t right) {
     for (size_t r = 0; r < COUNT(roll_lengths); r++) {
         for (size_t o = 0; o < COUNT(small_lengths); o++) {
-            uint32_t expected = then(of_rounds(rounds), roll_lengths[r] != 400, GORDZILA_INPUT_LENGTH);
+            uint32_t expected = then(of_rounds(key.length, rounds), roll_lengths[r] != 400, GORDZILA_INPUT_LENGTH);
             expected = then(expected, small_lengths[o] < 12, GORDZILA_OUTPUT_TOO_SHORT);
             uint8_t given[512] = {0};
             lend_roll(roll_lengths[r]);
@@ -155,7 +139,7 @@ static void rights_asked(uint32_t rounds) {
 
 static void stage(uint32_t n) {
     for (size_t o = 0; o < COUNT(small_lengths); o++) {
-        uint32_t expected = then(of_key(), n >= key.length, GORDZILA_STAGE_OR_LIST);
+        uint32_t expected = then(of_key(key.length), n >= key.length, GORDZILA_STAGE_OR_LIST);
         lend_any(&out, small_lengths[o]);
         judge("stage", gordzila_stage(key.at, key.length, n, out.at, out.length),
               then(expected, out.length < 24, GORDZILA_OUTPUT_TOO_SHORT), &out, 24);
@@ -174,7 +158,7 @@ static void with_keys(void) {
             for (size_t i = 0; i < COUNT(rights); i++) {
                 grant(round_counts[r], rights[i]);
             }
-            if (of_rounds(round_counts[r]) == 0) {
+            if (of_rounds(key.length, round_counts[r]) == 0) {
                 rights_asked(round_counts[r]);
             }
         }

@@ -19,12 +19,15 @@
 
 #define COUNT(list) (sizeof(list) / sizeof(list)[0])
 
+/* No test lends more bytes at once. */
+enum { LONGEST_LENT = 1536 };
+
 /* Bytes that are lent, and what stood there before the call. */
 struct lent {
     uint8_t *page;
     uint8_t *at;
     size_t length;
-    uint8_t before[512];
+    uint8_t before[LONGEST_LENT];
 };
 
 /* All buffers that have room, and on which side of their pages bytes are lent. */
@@ -54,7 +57,7 @@ static inline void lend(struct lent *l, const uint8_t *bytes, size_t length) {
 
 /* Any bytes will do for a key, a block or a list, and for what is written over. */
 static inline void lend_any(struct lent *l, size_t length) {
-    uint8_t bytes[512];
+    uint8_t bytes[LONGEST_LENT];
     for (size_t i = 0; i < length; i++) {
         bytes[i] = (uint8_t)(37 * i + length);
     }

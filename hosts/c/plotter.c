@@ -1,8 +1,8 @@
 /*
- * A plotter's morning, in small. The store enters a contractor and issues an overwriting grant; a plotter box caches it and checks it
- * against the roll as it is now: before it looks at the size block, and before it overwrites it. The contractor is withdrawn, and the
- * cached grant stops opening, also after a new standing. With a reading grant the contractor may then look, but not overwrite. Prints a
- * line for each step.
+ * A plotter's day and the next morning, in small. The store enters a contractor and issues an overwriting grant; a plotter box caches it
+ * and checks it against the roll as it is now: before it looks at the size block, and before it overwrites it. The contractor is
+ * withdrawn, and the cached grant stops opening, also after a new standing. With a reading grant the contractor may then look, but not
+ * overwrite. Next morning the box checks its pile of cached grants in one call. Prints a line for each step.
  */
 #include <stdio.h>
 #include <string.h>
@@ -35,11 +35,12 @@ static const char *reason(uint32_t number) {
 }
 
 /* What a call on the roll or an issue answered. */
-static void done(const char *what, uint32_t number) {
+static void done(const char *what, uint32_t contractor, uint32_t number) {
+    printf("%s contractor %u: ", what, (unsigned)contractor);
     if (number == 0) {
-        printf("%s: done\n", what);
+        printf("done\n");
     } else {
-        printf("%s: refused with %u, %s\n", what, (unsigned)number, reason(number));
+        printf("refused with %u, %s\n", (unsigned)number, reason(number));
     }
 }
 
@@ -58,28 +59,83 @@ static void may(uint32_t right, const uint8_t roll[GORDZILA_ROLL_BYTES], const u
     }
 }
 
-int main(void) {
-    uint8_t roll[GORDZILA_ROLL_BYTES];
-    uint8_t grant[GORDZILA_GRANT_BYTES];
-    memset(roll, 0, sizeof roll);
-    memset(grant, 0, sizeof grant);
+/* The pile of cached grants, one after the other as the queue takes them, and its length in bytes. */
+struct pile {
+    uint8_t grants[GORDZILA_LONGEST_QUEUE_BYTES];
+    size_t length;
+};
 
-    done("issue an overwriting grant to contractor 7",
-         gordzila_issue(key, sizeof key, rounds, roll, sizeof roll, 7, 300, GORDZILA_OVERWRITING, grant, sizeof grant));
-    done("enter contractor 7", gordzila_enter(roll, sizeof roll, 7));
-    done("issue an overwriting grant to contractor 7",
-         gordzila_issue(key, sizeof key, rounds, roll, sizeof roll, 7, 300, GORDZILA_OVERWRITING, grant, sizeof grant));
+/* A full pile takes no more. */
+static void cache(struct pile *pile, const uint8_t grant[GORDZILA_GRANT_BYTES]) {
+    if (pile->length < sizeof pile->grants) {
+        memcpy(pile->grants + pile->length, grant, GORDZILA_GRANT_BYTES);
+        pile->length += GORDZILA_GRANT_BYTES;
+    }
+}
+
+/* The same question of the whole pile, in one call. What it returned and a grant's byte say together whether the grant opens. */
+static void may_with_pile(uint32_t right, const uint8_t roll[GORDZILA_ROLL_BYTES], const struct pile *pile, uint32_t size_block) {
+    uint8_t answers[GORDZILA_QUEUE_MOST_GRANTS];
+    uint32_t returned = gordzila_check_queue(key, sizeof key, rounds, roll, GORDZILA_ROLL_BYTES, pile->grants, pile->length,
+                                             size_block, right, answers, sizeof answers);
+    if (returned != 0) {
+        printf("%s size block %u with the pile: refused with %u, %s\n", verb(right), (unsigned)size_block,
+               (unsigned)returned, reason(returned));
+        return;
+    }
+    for (size_t i = 0; i < pile->length / GORDZILA_GRANT_BYTES; i++) {
+        printf("%s size block %u with grant %u of the pile: ", verb(right), (unsigned)size_block, (unsigned)i + 1);
+        if (gordzila_queue_opens(returned, answers[i])) {
+            printf("opens\n");
+        } else {
+            printf("refused with %u, %s\n", (unsigned)answers[i], reason(answers[i]));
+        }
+    }
+}
+
+/* Two grants come into the pile: one that has stopped opening, and one for reading. */
+static void day(uint8_t roll[GORDZILA_ROLL_BYTES], struct pile *pile) {
+    uint8_t grant[GORDZILA_GRANT_BYTES] = {0};
+    done("issue an overwriting grant to", 7,
+         gordzila_issue(key, sizeof key, rounds, roll, GORDZILA_ROLL_BYTES, 7, 300, GORDZILA_OVERWRITING, grant, sizeof grant));
+    done("enter", 7, gordzila_enter(roll, GORDZILA_ROLL_BYTES, 7));
+    done("issue an overwriting grant to", 7,
+         gordzila_issue(key, sizeof key, rounds, roll, GORDZILA_ROLL_BYTES, 7, 300, GORDZILA_OVERWRITING, grant, sizeof grant));
+    cache(pile, grant);
     may(GORDZILA_READING, roll, grant, 300);
     may(GORDZILA_OVERWRITING, roll, grant, 300);
     may(GORDZILA_OVERWRITING, roll, grant, 301);
-    done("withdraw contractor 7", gordzila_withdraw(roll, sizeof roll, 7));
+    done("withdraw", 7, gordzila_withdraw(roll, GORDZILA_ROLL_BYTES, 7));
     may(GORDZILA_READING, roll, grant, 300);
     may(GORDZILA_OVERWRITING, roll, grant, 300);
-    done("enter contractor 7", gordzila_enter(roll, sizeof roll, 7));
+    done("enter", 7, gordzila_enter(roll, GORDZILA_ROLL_BYTES, 7));
     may(GORDZILA_OVERWRITING, roll, grant, 300);
-    done("issue a reading grant to contractor 7",
-         gordzila_issue(key, sizeof key, rounds, roll, sizeof roll, 7, 300, GORDZILA_READING, grant, sizeof grant));
+    done("issue a reading grant to", 7,
+         gordzila_issue(key, sizeof key, rounds, roll, GORDZILA_ROLL_BYTES, 7, 300, GORDZILA_READING, grant, sizeof grant));
+    cache(pile, grant);
     may(GORDZILA_READING, roll, grant, 300);
     may(GORDZILA_OVERWRITING, roll, grant, 300);
+}
+
+/* Another contractor's grant comes into the pile, and a copy of it with a damaged byte. Who has it, only the single check says. */
+static void morning(uint8_t roll[GORDZILA_ROLL_BYTES], struct pile *pile) {
+    uint8_t grant[GORDZILA_GRANT_BYTES] = {0};
+    done("enter", 12, gordzila_enter(roll, GORDZILA_ROLL_BYTES, 12));
+    done("issue an overwriting grant to", 12,
+         gordzila_issue(key, sizeof key, rounds, roll, GORDZILA_ROLL_BYTES, 12, 300, GORDZILA_OVERWRITING, grant, sizeof grant));
+    cache(pile, grant);
+    grant[0] ^= 1;
+    cache(pile, grant);
+    may_with_pile(GORDZILA_OVERWRITING, roll, pile, 300);
+    may(GORDZILA_OVERWRITING, roll, pile->grants + 2 * GORDZILA_GRANT_BYTES, 300);
+    done("withdraw", 12, gordzila_withdraw(roll, GORDZILA_ROLL_BYTES, 12));
+    may_with_pile(GORDZILA_READING, roll, pile, 300);
+}
+
+int main(void) {
+    uint8_t roll[GORDZILA_ROLL_BYTES] = {0};
+    struct pile pile = {{0}, 0};
+    day(roll, &pile);
+    morning(roll, &pile);
     return 0;
 }

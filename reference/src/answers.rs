@@ -28,6 +28,11 @@
 //!   the same walks, then for one to 6t from 0 for each key.
 //! - `broken BYTES ANSWER`: the number that a step forward on lent bytes answers.
 //! - `standing COUNT yes|no`: whether a contractor with this count is in standing.
+//! - `queued LENGTH yes|no`: whether so many bytes are those of a queue of grants.
+//! - `queue KEY ROUNDS COUNT,COUNT,... GRANTS BLOCK RIGHT ANSWER ANSWER ...`: the answers
+//!   for the enciphered grants of a queue, in their order, asked for a size block and a
+//!   right, where the roll has these counts for contractors 1, 2, ... and zero for all
+//!   later ones.
 //! - `order CALL A B GIVEN`: the number with which a call is refused for which the
 //!   reasons A and B hold, and no reason that comes before A.
 //!
@@ -42,9 +47,13 @@
 //!   is too short, because it returns the grant. So 6 comes next to 2.
 //!
 //! The reasons 6 and 20 of withdraw do hold together: a contractor without a count
-//! is not in standing.
+//! is not in standing. So do the reasons 3 and 4 of a queue: 65 grants are too many,
+//! and 64 bytes are too few for their answers.
 //!
 //! The grants of `judged` are all for contractor 7, with count 1 and size block 300.
+//!
+//! The two lines `queue` have the same four grants, all for size block 300. Overwriting
+//! is asked for in the first, reading in the second.
 //!
 //! The whole holders of `broken` stand last; they are at stage 6t - 1. The bytes of
 //! the lines before come from these by a single change each, but for those without
@@ -56,8 +65,8 @@ use crate::grants::{answer_of, number_of};
 use crate::holder::{forward, holder_bytes, walk_to};
 use crate::matrix::Matrix;
 use crate::roll::{
-    counts_from_bytes, counts_to_bytes, covers, in_standing, Grant, Roll, CONTRACTORS, OVERWRITING,
-    READING,
+    counts_from_bytes, counts_to_bytes, covers, in_standing, queue_length, Grant, Roll,
+    CONTRACTORS, OVERWRITING, READING,
 };
 use crate::routes::walk;
 use crate::schedule::{cipher_key, key_stage, round_subkeys, select};
@@ -134,6 +143,23 @@ const WALKS: [(usize, usize, usize); 11] = [
 /// The counts with which a contractor is or is not in standing.
 const COUNTS: [u16; 7] = [0, 1, 2, 65_532, 65_533, 65_534, 65_535];
 
+/// The numbers of bytes that are or are not those of a queue.
+const QUEUE_LENGTHS: [usize; 11] = [0, 1, 11, 12, 13, 24, 756, 767, 768, 769, 780];
+
+/// The counts of contractors 1, 2 and 3 in the roll of the queue that is answered.
+const QUEUE_COUNTS: [u16; 3] = [1, 2, 3];
+
+/// The grants of this queue: the contractor, the count, the size block and the right.
+const QUEUE: [(u16, u16, u32, u8); 4] = [
+    (1, 1, 300, OVERWRITING),
+    (1, 1, 300, READING),
+    (2, 2, 300, OVERWRITING),
+    (3, 1, 300, OVERWRITING),
+];
+
+/// What the bytes lent for answers have before: no number of an answer.
+const UNWRITTEN: u8 = 0xFF;
+
 /// The pairs of reasons for a withdrawal.
 const WITHDRAW_PAIRS: [[u8; 2]; 1] = [[6, 20]];
 
@@ -151,6 +177,9 @@ const CHECK_PAIRS: [[u8; 2]; 8] = [
     [10, 20],
     [20, 23],
 ];
+
+/// The pairs of reasons for a queue.
+const QUEUE_PAIRS: [[u8; 2]; 4] = [[1, 2], [2, 3], [3, 4], [4, 7]];
 
 /// The contractor of a call in which nothing is wrong.
 const CONTRACTOR: u16 = 7;
@@ -182,9 +211,12 @@ pub fn answers_text() -> Result<String, Error> {
     add_walked_lines(&mut text)?;
     add_broken_lines(&mut text)?;
     add_standing_lines(&mut text);
+    add_queued_lines(&mut text);
+    add_queue_lines(&mut text);
     add_order_lines(&mut text, "withdraw", &WITHDRAW_PAIRS, withdraw_with);
     add_order_lines(&mut text, "issue", &ISSUE_PAIRS, issue_with);
     add_order_lines(&mut text, "check", &CHECK_PAIRS, check_with);
+    add_order_lines(&mut text, "queue", &QUEUE_PAIRS, queue_with);
     Ok(text)
 }
 
@@ -202,15 +234,16 @@ fn add_limits_lines(text: &mut String) -> Result<(), Error> {
 /// The line for a roll that is read, and the line for one that is written.
 fn add_roll_lines(text: &mut String) {
     let read = counts_from_bytes(&ROLL_READ).expect("the number of bytes is even");
-    add_line(text, &["roll", &hex(&ROLL_READ), &decimals(&read)]);
+    add_line(text, &["roll", &hex(&ROLL_READ), &decimals(&read, " ")]);
+    let counts = decimals(&ROLL_WRITTEN, " ");
     let written = hex(&counts_to_bytes(&ROLL_WRITTEN));
-    add_line(text, &["rollbytes", &decimals(&ROLL_WRITTEN), &written]);
+    add_line(text, &["rollbytes", &counts, &written]);
 }
 
-/// Counts as decimal numbers, with one space between each two.
-fn decimals(counts: &[u16]) -> String {
-    let numbers: Vec<String> = counts.iter().map(u16::to_string).collect();
-    numbers.join(" ")
+/// Numbers in decimal, with the same text between each two.
+fn decimals<T: ToString>(numbers: &[T], between: &str) -> String {
+    let fields: Vec<String> = numbers.iter().map(T::to_string).collect();
+    fields.join(between)
 }
 
 /// The line for the rows of a block.
@@ -427,6 +460,62 @@ fn add_standing_lines(text: &mut String) {
     }
 }
 
+/// The lines for numbers of bytes that are or are not those of a queue.
+fn add_queued_lines(text: &mut String) {
+    for length in QUEUE_LENGTHS {
+        let word = if queue_length(length) { "yes" } else { "no" };
+        add_line(text, &["queued", &length.to_string(), word]);
+    }
+}
+
+/// The lines for the queue, asked for overwriting and then for reading.
+fn add_queue_lines(text: &mut String) {
+    let grants = queued_grants();
+    for right in [OVERWRITING, READING] {
+        let answers = queue_answers(&grants, right);
+        add_line(
+            text,
+            &[
+                "queue",
+                &hex(&KEY[..SHORT]),
+                &ROUNDS.to_string(),
+                &decimals(&QUEUE_COUNTS, ","),
+                &hex(&grants),
+                &SIZE_BLOCK.to_string(),
+                &right.to_string(),
+                &decimals(&answers, " "),
+            ],
+        );
+    }
+}
+
+/// The enciphered grants of the queue, one after the other.
+fn queued_grants() -> Vec<u8> {
+    let mut bytes = Vec::new();
+    for (contractor, count, block, right) in QUEUE {
+        let grant = Grant {
+            contractor,
+            count,
+            block,
+            right,
+        };
+        bytes.extend(enciphered(&grant.plain_bytes()));
+    }
+    bytes
+}
+
+/// The answers for the grants of the queue.
+fn queue_answers(grants: &[u8], right: u8) -> [u8; QUEUE.len()] {
+    let mut counts = [0; CONTRACTORS];
+    counts[..QUEUE_COUNTS.len()].copy_from_slice(&QUEUE_COUNTS);
+    let roll = Roll::with_counts(counts);
+    let mut answers = [UNWRITTEN; QUEUE.len()];
+    let key = &KEY[..SHORT];
+    let called = roll.check_queue(key, ROUNDS, grants, SIZE_BLOCK, right, &mut answers);
+    called.expect("the key, the rounds, the queue and the right are allowed");
+    answers
+}
+
 /// The lines for the pairs of reasons for one call. `call_with` makes the call with
 /// an input for which the given reasons hold.
 fn add_order_lines(
@@ -467,6 +556,24 @@ pub fn check_with(reasons: &[u8]) -> String {
     };
     let right = right_with(reasons);
     number_of(&roll_with(reasons).check(key, rounds, &grant, block, right))
+}
+
+/// The number of a queue for which the given reasons hold, of 1, 2, 3, 4 and 7. It has
+/// 64 grants, and for reason 3 one more. One byte is lent for each, and for reason 4
+/// one byte less in all. Nothing is wrong with the grants themselves.
+pub fn queue_with(reasons: &[u8]) -> String {
+    let (key, rounds) = key_and_rounds_with(reasons);
+    let count = if reasons.contains(&3) { 65 } else { 64 };
+    let lent = if reasons.contains(&4) {
+        count - 1
+    } else {
+        count
+    };
+    let grants = grant_with(&[]).repeat(count);
+    let mut answers = vec![UNWRITTEN; lent];
+    let right = right_with(reasons);
+    let roll = roll_with(reasons);
+    number_of(&roll.check_queue(key, rounds, &grants, SIZE_BLOCK, right, &mut answers))
 }
 
 /// The key and the number of rounds of a call. For reason 1 the key has 11 bytes.

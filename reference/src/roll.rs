@@ -12,13 +12,21 @@
 //! - issue: answers a grant with the contractor's count; 1, 2, 4, 6, 7, 20.
 //! - check: answers the contractor in a grant and the right asked for, asked for one
 //!   size block and one right; 1, 2, 3, 7, 8, 9, 10, 20, 23.
+//! - queue: writes an answer for each of 0 to 64 grants, all asked for one size block
+//!   and one right; 1, 2, 3, 4, 7.
 //!
 //! An overwriting grant opens its size block for reading too. A reading grant does
 //! not overwrite; to ask that of it is reason 10.
 //!
 //! A grant is one block of 12 bytes: the plain bytes, enciphered under the key and
-//! the number of rounds. Number 4, for an output that is too short, does not occur:
-//! a grant is returned and not written to a place that the caller chose.
+//! the number of rounds. Number 4, for an output that is too short, does not occur in
+//! an issue: a grant is returned and not written to a place that the caller chose.
+//!
+//! A queue is its grants one after the other, 12 bytes each and at most 768 in all.
+//! Any other length is reason 3. The caller lends at least one byte for each grant;
+//! fewer are reason 4. The answer for a grant is 0 if it opens, and otherwise the
+//! number with which a check of this grant alone is refused. Lent bytes past the
+//! answers stay.
 //!
 //! A roll in bytes is the counts of the contractors in order, that of contractor 1
 //! first, two bytes each, big end first. A whole roll has 400 bytes.
@@ -37,6 +45,12 @@ pub const OVERWRITING: u8 = 2;
 /// The number of bytes in a grant, plain or enciphered.
 const GRANT_LENGTH: usize = 12;
 
+/// The greatest number of grants in a queue.
+const MOST_IN_QUEUE: usize = 64;
+
+/// The answer in a queue for a grant that opens.
+const OPENS: u8 = 0;
+
 /// The last bytes of every plain grant.
 const MARK: [u8; 3] = [0x47, 0x52, 0x44];
 
@@ -50,8 +64,11 @@ pub enum Refusal {
     KeyLength = 1,
     /// The number of rounds is not one that Table 2 allows for the key.
     Rounds = 2,
-    /// The grant does not have 12 bytes.
+    /// The grant does not have 12 bytes, or the queue is not one of 0 to 64 grants of
+    /// 12 bytes.
     GrantLength = 3,
+    /// Fewer bytes are lent for the answers than there are grants in the queue.
+    ShortAnswers = 4,
     /// The contractor is outside 1 to 200.
     NoSuchContractor = 6,
     /// The right is neither reading nor overwriting.
@@ -224,6 +241,36 @@ impl Roll {
         self.check_grant(&grant, block, right)
     }
 
+    /// Checks the grants of a queue one by one, all for the same right on the same
+    /// size block, and writes the answer for each, the first grant's first. If the
+    /// whole call is refused, no answer is written: all reasons for that are looked at
+    /// before the first grant is.
+    pub fn check_queue(
+        &self,
+        key: &[u8],
+        rounds: usize,
+        grants: &[u8],
+        block: u32,
+        right: u8,
+        answers: &mut [u8],
+    ) -> Result<(), Refusal> {
+        check_key_and_rounds(key, rounds)?;
+        if !queue_length(grants.len()) {
+            return Err(Refusal::GrantLength);
+        }
+        if answers.len() < grants.len() / GRANT_LENGTH {
+            return Err(Refusal::ShortAnswers);
+        }
+        check_right(right)?;
+        for (grant, answer) in grants.chunks(GRANT_LENGTH).zip(answers) {
+            *answer = match self.check(key, rounds, grant, block, right) {
+                Ok(_) => OPENS,
+                Err(refusal) => refusal.number(),
+            };
+        }
+        Ok(())
+    }
+
     /// The part of a check that comes after deciphering. Both rights, the one in the
     /// grant and the one asked for, are reading or overwriting by now.
     fn check_grant(&self, grant: &Grant, block: u32, right: u8) -> Result<Accepted, Refusal> {
@@ -274,6 +321,11 @@ pub fn counts_to_bytes(counts: &[u16]) -> Vec<u8> {
         .iter()
         .flat_map(|count| count.to_be_bytes())
         .collect()
+}
+
+/// Whether a queue can have this many bytes: those of 0 to 64 whole grants.
+pub fn queue_length(bytes: usize) -> bool {
+    bytes % GRANT_LENGTH == 0 && bytes <= MOST_IN_QUEUE * GRANT_LENGTH
 }
 
 /// Whether a contractor with this count is in standing.

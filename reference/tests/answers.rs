@@ -2,7 +2,9 @@
 //! by hand, it is written out here. Stages are taken from the closed form of section
 //! 3.7, subkeys from the published S-box, and the turned list has to decipher.
 
-use curupira_reference::answers::{answers_text, check_with, issue_with, withdraw_with};
+use curupira_reference::answers::{
+    answers_text, check_with, issue_with, queue_with, withdraw_with,
+};
 use curupira_reference::cipher::{encrypt, encrypt_with};
 use curupira_reference::generator::Generator;
 use curupira_reference::holder::{back, forward, make, subkey, walk_to};
@@ -17,6 +19,16 @@ const KEYS: [&str; 3] = [
     "0f1e2d3c4b5a69788796a5b4",
     "0f1e2d3c4b5a69788796a5b4c3d2e1f00112",
     "0f1e2d3c4b5a69788796a5b4c3d2e1f00112233445566770",
+];
+
+/// The plain bytes of the grants in the queue, in their order, and the answers if
+/// overwriting and if reading is asked for. 300 is hex 12C. The roll has count 1 for
+/// contractor 1, 2 for contractor 2 and 3 for contractor 3. README.md prints them.
+const QUEUE: [(&str, [&str; 2]); 4] = [
+    ("000100010000012c02475244", ["0", "0"]),
+    ("000100010000012c01475244", ["10", "0"]),
+    ("000200020000012c02475244", ["20", "20"]),
+    ("000300010000012c02475244", ["23", "23"]),
 ];
 
 /// The lines of a name, as they are printed.
@@ -89,13 +101,15 @@ fn the_lines_stand_in_the_documented_order() {
         ("walked", 14),
         ("broken", 10),
         ("standing", 7),
-        ("order", 13),
+        ("queued", 11),
+        ("queue", 2),
+        ("order", 17),
     ];
     let documented = groups
         .iter()
         .flat_map(|(name, count)| vec![Some(*name); *count]);
     assert!(names.eq(documented));
-    assert_eq!(text.lines().count(), 112);
+    assert_eq!(text.lines().count(), 129);
 }
 
 /// The lines that README.md prints.
@@ -625,6 +639,121 @@ fn the_standings_show_in_the_calls_of_the_roll() {
     }
 }
 
+/// 64 grants of 12 bytes are 768 bytes, 63 are 756, and 65 are 780.
+#[test]
+fn the_lengths_of_a_queue_are_as_counted_by_hand() {
+    let written = [
+        "queued 0 yes",
+        "queued 1 no",
+        "queued 11 no",
+        "queued 12 yes",
+        "queued 13 no",
+        "queued 24 yes",
+        "queued 756 yes",
+        "queued 767 no",
+        "queued 768 yes",
+        "queued 769 no",
+        "queued 780 no",
+    ];
+    assert_eq!(lines_of("queued"), written);
+}
+
+#[test]
+fn the_lengths_of_a_queue_show_in_the_call() {
+    let key = bytes(KEYS[0]);
+    for line in fields_of("queued") {
+        let grants = vec![0; number(&line[1])];
+        let called = Roll::new().check_queue(&key, 10, &grants, 300, 1, &mut [0; 65]);
+        let said = match line[2].as_str() {
+            "yes" => Ok(()),
+            _ => Err(Refusal::GrantLength),
+        };
+        assert_eq!(called, said, "{} bytes", line[1]);
+    }
+}
+
+/// The answers of the queue, if 2 and if 1 is asked for.
+#[test]
+fn the_answers_of_the_queue_are_as_worked_out_by_hand() {
+    let lines = fields_of("queue");
+    assert_eq!(lines.len(), 2);
+    for (k, right) in ["2", "1"].iter().enumerate() {
+        let line = &lines[k];
+        assert_eq!(line[1..4], [KEYS[0], "10", "1,2,3"]);
+        assert_eq!(line[4], lines[0][4]);
+        assert_eq!(line[5..7], ["300", *right]);
+        let answers: Vec<&str> = QUEUE.iter().map(|(_, answers)| answers[k]).collect();
+        assert_eq!(line[7..], answers);
+    }
+}
+
+#[test]
+fn the_queue_is_that_of_the_readme() {
+    let rows: Vec<String> = QUEUE
+        .iter()
+        .map(|(plain, [first, second])| format!("| {} | {} | {} |", plain, first, second))
+        .collect();
+    let readme = include_str!("../README.md");
+    assert!(readme.contains(&format!("|\n{}\n\n", rows.join("\n"))));
+}
+
+/// The grants of the queue, deciphered by the decryption keys of the line `turned`.
+#[test]
+fn the_grants_of_the_queue_decipher_to_the_plain_bytes() {
+    let turned = states(&fields_of("turned")[0][3]);
+    let plain: Vec<String> = states(&fields_of("queue")[0][4])
+        .iter()
+        .map(|grant| encrypt_with(&turned, grant).expect("there are subkeys"))
+        .map(|state| hex(&state.to_bytes()))
+        .collect();
+    let written = QUEUE.map(|(digits, _)| digits);
+    assert_eq!(plain, written);
+}
+
+/// The roll of a line `queue`: the counts of its fourth field, and zero for all later
+/// contractors.
+fn queue_roll(line: &[String]) -> Roll {
+    let mut counts = [0; 200];
+    for (place, count) in line[3].split(',').enumerate() {
+        counts[place] = count.parse().expect("a count");
+    }
+    Roll::with_counts(counts)
+}
+
+#[test]
+fn the_answers_of_the_queue_are_those_of_single_checks() {
+    for line in fields_of("queue") {
+        let roll = queue_roll(&line);
+        let grants = bytes(&line[4]);
+        let [block, right] = [5, 6].map(|k| number(&line[k]));
+        assert_eq!(grants.len(), 12 * line[7..].len());
+        for (grant, answer) in grants.chunks(12).zip(&line[7..]) {
+            let key = bytes(&line[1]);
+            let checked = roll.check(&key, 10, grant, block as u32, right as u8);
+            let said = checked.map_or_else(|refusal| refusal.number(), |_| 0);
+            assert_eq!(said.to_string(), *answer);
+        }
+    }
+}
+
+/// The answers do not hang on the key: the long key with the most rounds gives the same
+/// for the same plain bytes.
+#[test]
+fn the_answers_of_the_queue_are_the_same_under_another_key() {
+    let key = bytes(KEYS[2]);
+    let grants: Vec<u8> = QUEUE
+        .iter()
+        .flat_map(|(plain, _)| encrypt(&key, 23, &bytes(plain)).expect("12 bytes"))
+        .collect();
+    for line in fields_of("queue") {
+        let right = number(&line[6]) as u8;
+        let mut answers = [0xFF; 4];
+        let called = queue_roll(&line).check_queue(&key, 23, &grants, 300, right, &mut answers);
+        assert_eq!(called, Ok(()));
+        assert_eq!(answers.map(|answer| answer.to_string()), line[7..]);
+    }
+}
+
 #[test]
 fn the_orders_are_as_written_by_hand() {
     let written = [
@@ -641,6 +770,10 @@ fn the_orders_are_as_written_by_hand() {
         "order check 9 10 9",
         "order check 10 20 10",
         "order check 20 23 20",
+        "order queue 1 2 1",
+        "order queue 2 3 2",
+        "order queue 3 4 3",
+        "order queue 4 7 4",
     ];
     assert_eq!(lines_of("order"), written);
 }
@@ -662,6 +795,7 @@ fn each_reason_of_a_pair_holds_by_itself() {
     check_reasons(&[6, 20], withdraw_with);
     check_reasons(&[1, 2, 6, 7, 20], issue_with);
     check_reasons(&[1, 2, 3, 7, 8, 9, 10, 20, 23], check_with);
+    check_reasons(&[1, 2, 3, 4, 7], queue_with);
 }
 
 /// Why there are no lines for enter: no contractor outside 1 to 200 has a count, and

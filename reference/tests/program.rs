@@ -244,7 +244,7 @@ fn grants_draws_its_inputs_as_documented() {
 
 /// The names of the lines of answers, each with how many there are of it and how many
 /// fields they have, the name being one of them.
-const ANSWERS: [(&str, usize, usize); 17] = [
+const ANSWERS: [(&str, usize, usize); 19] = [
     ("limits", 3, 4),
     ("roll", 1, 6),
     ("rollbytes", 1, 6),
@@ -261,7 +261,9 @@ const ANSWERS: [(&str, usize, usize); 17] = [
     ("walked", 14, 5),
     ("broken", 10, 3),
     ("standing", 7, 3),
-    ("order", 13, 5),
+    ("queued", 11, 3),
+    ("queue", 2, 11),
+    ("order", 17, 5),
 ];
 
 #[test]
@@ -316,4 +318,32 @@ fn answers_lends_holders_of_the_keys_of_the_documentation() {
         }
     }
     assert!(rest.next().is_none());
+}
+
+/// The grants of the queue in the documentation: contractor, count, size block and right.
+const QUEUE: [(u16, u16, u32, u8); 4] = [
+    (1, 1, 300, 2),
+    (1, 1, 300, 1),
+    (2, 2, 300, 2),
+    (3, 1, 300, 2),
+];
+
+#[test]
+fn answers_queues_the_grants_of_the_documentation() {
+    let key = "0f1e2d3c4b5a69788796a5b4";
+    let mut grants = Vec::new();
+    for (contractor, count, block, right) in QUEUE {
+        let numbers = format!("{:04x}{:04x}{:08x}{:02x}", contractor, count, block, right);
+        let plain = bytes(&format!("{}475244", numbers));
+        grants.extend(encrypt(&bytes(key), 10, &plain).expect("12 bytes"));
+    }
+    let printed = lines("answers");
+    let queues: Vec<&Vec<String>> = printed.iter().filter(|line| line[0] == "queue").collect();
+    for (line, right) in queues.iter().zip(["2", "1"]) {
+        assert_eq!(line[1..4], [key, "10", "1,2,3"]);
+        assert_eq!(bytes(&line[4]), grants);
+        assert_eq!(line[5..7], ["300", right]);
+    }
+    assert_eq!(queues[0][7..].join(" "), "0 10 20 23");
+    assert_eq!(queues[1][7..].join(" "), "0 0 20 23");
 }

@@ -5,7 +5,7 @@
 use curupira_reference::cipher::{decryption_keys, encrypt, encrypt_with};
 use curupira_reference::matrix::Matrix;
 use curupira_reference::roll::{
-    covers, in_standing, Accepted, Grant, Refusal, Roll, OVERWRITING, READING,
+    covers, in_standing, queue_length, Accepted, Grant, Refusal, Roll, OVERWRITING, READING,
 };
 use curupira_reference::schedule::round_subkeys;
 
@@ -18,6 +18,36 @@ const ROUNDS: usize = 10;
 /// The plain bytes for contractor 7, count 1, size block 300, overwriting.
 const PLAIN: [u8; 12] = [
     0x00, 0x07, 0x00, 0x01, 0x00, 0x00, 0x01, 0x2C, 0x02, 0x47, 0x52, 0x44,
+];
+
+/// What a byte lent for an answer has before the call. It is no answer.
+const LENT: u8 = 0xA5;
+
+/// A grant of a pile: what is changed in PLAIN for it, and the answers if reading and if
+/// overwriting is asked for.
+type Piled = (&'static [(usize, u8)], [u8; 2]);
+
+/// A pile of grants. In the roll, contractor 7 has count 1, contractor 8 has 2,
+/// contractor 9 has 3, and everyone else has zero. Size block 300 is asked for. Bytes 0
+/// and 1 are the contractor, byte 3 is the end of the count, byte 7 the end of the size
+/// block, byte 8 the right and byte 11 the end of the mark.
+const PILE: [Piled; 16] = [
+    (&[], [0, 0]),
+    (&[(8, 1)], [0, 10]),
+    (&[(7, 0x2D)], [9, 9]),
+    (&[(7, 0x2D), (8, 1)], [9, 9]),
+    (&[(8, 0)], [8, 8]),
+    (&[(8, 3)], [8, 8]),
+    (&[(11, 0x45)], [8, 8]),
+    (&[(1, 0)], [8, 8]),
+    (&[(1, 201)], [8, 8]),
+    (&[(0, 1)], [8, 8]),
+    (&[(1, 8), (3, 2)], [20, 20]),
+    (&[(1, 8), (3, 1)], [20, 20]),
+    (&[(1, 8), (3, 1), (8, 1)], [20, 10]),
+    (&[(1, 9), (3, 1)], [23, 23]),
+    (&[(1, 9), (3, 3)], [0, 0]),
+    (&[(1, 9), (3, 3), (8, 1)], [0, 10]),
 ];
 
 /// The number of a call: 0, or the number of the reason for which it is refused.
@@ -75,6 +105,7 @@ fn the_numbers_are_as_documented() {
         (Refusal::KeyLength, 1),
         (Refusal::Rounds, 2),
         (Refusal::GrantLength, 3),
+        (Refusal::ShortAnswers, 4),
         (Refusal::NoSuchContractor, 6),
         (Refusal::NoSuchRight, 7),
         (Refusal::NoGrant, 8),
@@ -382,15 +413,16 @@ fn an_issue_needs_standing_and_a_contractor_and_a_right() {
     }
 }
 
-/// The numbers with which an issue and a check are refused, for a key of `length`
-/// bytes, if nothing but the key or the rounds can be wrong.
-fn numbers_for(length: usize, rounds: usize) -> (u8, u8) {
+/// The numbers with which an issue, a check and a queue of one grant are refused, for a
+/// key of `length` bytes, if nothing but the key or the rounds can be wrong.
+fn numbers_for(length: usize, rounds: usize) -> [u8; 3] {
     let key = vec![0; length];
     let roll = roll_at(1);
     let issued = roll.issue(&key, rounds, 7, 300, READING);
     let grant = issued.clone().unwrap_or_else(|_| vec![0; 12]);
     let checked = roll.check(&key, rounds, &grant, 300, READING);
-    (number(issued), number(checked))
+    let queued = roll.check_queue(&key, rounds, &grant, 300, READING, &mut [LENT]);
+    [number(issued), number(checked), number(queued)]
 }
 
 #[test]
@@ -402,12 +434,12 @@ fn the_key_and_the_rounds_have_to_be_those_of_table_2() {
             } else {
                 0
             };
-            assert_eq!(numbers_for(length, rounds), (refused, refused));
+            assert_eq!(numbers_for(length, rounds), [refused; 3]);
         }
     }
     for length in [0, 1, 11, 13, 17, 19, 23, 25, 48] {
         for rounds in [0, 10, 14, 18, 99] {
-            assert_eq!(numbers_for(length, rounds), (1, 1));
+            assert_eq!(numbers_for(length, rounds), [1; 3]);
         }
     }
 }
@@ -638,4 +670,260 @@ fn a_check_is_refused_with_the_first_of_two_reasons() {
 fn a_check_for_reading_is_refused_with_the_first_of_the_same_reasons() {
     check_order(&[1, 2, 3, 7, 8, 9, 20, 23], look_with);
     check_order(&[1, 2, 3, 7, 8, 9, 20, 23], read_with);
+}
+
+/// The roll of PILE.
+fn pile_roll() -> Roll {
+    let mut counts = [0; 200];
+    counts[6..9].copy_from_slice(&[1, 2, 3]);
+    Roll::with_counts(counts)
+}
+
+/// The grants of PILE, enciphered under a key and a number of rounds.
+fn pile_grants(key: &[u8], rounds: usize) -> Vec<Vec<u8>> {
+    PILE.iter()
+        .map(|(changes, _)| encrypt(key, rounds, &plain_with(changes)))
+        .map(|grant| grant.expect("a block of 12 bytes"))
+        .collect()
+}
+
+/// The bytes of a queue, as many as wanted, of grants for contractor 7 that open for
+/// size block 300 and both rights if the count is 1.
+fn queue_bytes(length: usize) -> Vec<u8> {
+    let grant = enciphered(&PLAIN);
+    grant.iter().copied().cycle().take(length).collect()
+}
+
+/// The number of a queue with these bytes, asked for size block 300, and what the bytes
+/// lent for the answers are after the call. Everyone has count 1.
+fn queue_of(grants: &[u8], lent: usize, right: u8) -> (u8, Vec<u8>) {
+    let mut answers = vec![LENT; lent];
+    let roll = roll_at(1);
+    let called = roll.check_queue(&KEY, ROUNDS, grants, 300, right, &mut answers);
+    (number(called), answers)
+}
+
+/// Lent bytes of which the first ones are the answer 0, and the others as before.
+fn opened(answers: usize, lent: usize) -> Vec<u8> {
+    let mut bytes = vec![0; answers];
+    bytes.resize(lent, LENT);
+    bytes
+}
+
+/// The answers for a queue on the roll of PILE, asked for size block 300.
+fn pile_answers(grants: &[Vec<u8>], right: u8) -> Vec<u8> {
+    let mut answers = vec![LENT; grants.len()];
+    let queue = grants.concat();
+    let called = pile_roll().check_queue(&KEY, ROUNDS, &queue, 300, right, &mut answers);
+    assert_eq!(called, Ok(()));
+    answers
+}
+
+/// The pile is handed over as it is and from its end, so that every grant stands at two
+/// places. A grant that is refused has no bearing on the others.
+#[test]
+fn the_answers_for_a_pile_are_as_written_by_hand() {
+    let mut grants = pile_grants(&KEY, ROUNDS);
+    let mut for_reading = PILE.map(|(_, [answer, _])| answer);
+    let mut for_overwriting = PILE.map(|(_, [_, answer])| answer);
+    for _ in 0..2 {
+        assert_eq!(pile_answers(&grants, READING), for_reading);
+        assert_eq!(pile_answers(&grants, OVERWRITING), for_overwriting);
+        grants.reverse();
+        for_reading.reverse();
+        for_overwriting.reverse();
+    }
+}
+
+/// The answers for 64 grants, the pile four times, have to be the numbers of 64 checks.
+/// The size block is the one in most grants, the one in the others, and one in none.
+#[test]
+fn each_answer_is_the_number_of_a_check_of_that_grant_alone() {
+    let roll = pile_roll();
+    for (length, rounds) in [(12, 10), (12, 11), (18, 14), (18, 17), (24, 18), (24, 23)] {
+        let key: Vec<u8> = (1..).take(length).collect();
+        let grants = pile_grants(&key, rounds).concat().repeat(4);
+        for (block, right) in [(300, 1), (300, 2), (301, 1), (301, 2), (0, 1), (0, 2)] {
+            let alone: Vec<u8> = grants
+                .chunks(12)
+                .map(|grant| number(roll.check(&key, rounds, grant, block, right)))
+                .collect();
+            let mut answers = vec![LENT; 64];
+            let called = roll.check_queue(&key, rounds, &grants, block, right, &mut answers);
+            assert_eq!(called, Ok(()));
+            assert_eq!(answers, alone);
+        }
+    }
+}
+
+/// 1, 2, 3, 4 and 7 are for the whole call, and 6, 21 and 22 for no check.
+#[test]
+fn an_answer_is_0_or_one_of_five_reasons() {
+    let grants = pile_grants(&KEY, ROUNDS);
+    let mut answers = [READING, OVERWRITING]
+        .map(|right| pile_answers(&grants, right))
+        .concat();
+    answers.sort_unstable();
+    answers.dedup();
+    assert_eq!(answers, [0, 8, 9, 10, 20, 23]);
+}
+
+/// Any bytes may stand in a queue. These decipher to no mark.
+#[test]
+fn what_is_no_grant_is_answered_with_8() {
+    let bytes: Vec<u8> = (0..48).map(|k| k * 5).collect();
+    assert_eq!(queue_of(&bytes, 4, READING), (0, vec![8; 4]));
+    assert_eq!(queue_of(&[0; 768], 64, OVERWRITING), (0, vec![8; 64]));
+}
+
+/// The number of bytes, and the number of the call. 64 grants have 768 bytes. There are
+/// lent bytes enough for any of them, and those past the answers stay.
+#[test]
+fn a_queue_has_0_to_64_whole_grants() {
+    let cases = [
+        (0, 0),
+        (1, 3),
+        (11, 3),
+        (12, 0),
+        (13, 3),
+        (23, 3),
+        (24, 0),
+        (25, 3),
+        (64, 3),
+        (756, 0),
+        (767, 3),
+        (768, 0),
+        (769, 3),
+        (779, 3),
+        (780, 3),
+        (792, 3),
+        (1_536, 3),
+    ];
+    for (length, refused) in cases {
+        let called = queue_of(&queue_bytes(length), 200, OVERWRITING);
+        let answers = if refused == 0 { length / 12 } else { 0 };
+        assert_eq!(called, (refused, opened(answers, 200)), "{} bytes", length);
+        assert_eq!(queue_length(length), refused == 0, "{} bytes", length);
+    }
+}
+
+/// 65 numbers of bytes are a queue's: 0, 12, 24, ..., 768.
+#[test]
+fn every_twelfth_number_of_bytes_up_to_768_is_a_queues() {
+    let lengths: Vec<usize> = (0..=5_000).filter(|&bytes| queue_length(bytes)).collect();
+    assert_eq!((lengths.len(), lengths.last()), (65, Some(&768)));
+    assert!((0..).step_by(12).take(65).eq(lengths));
+    assert!(!queue_length(usize::MAX));
+}
+
+/// The number of grants, the number of bytes lent, and the number of the call. 65 grants
+/// are refused with 3, however many bytes are lent for them.
+#[test]
+fn the_answers_need_one_byte_for_each_grant() {
+    let cases = [
+        (0, 0, 0),
+        (0, 1, 0),
+        (0, 64, 0),
+        (1, 0, 4),
+        (1, 1, 0),
+        (1, 2, 0),
+        (2, 1, 4),
+        (2, 2, 0),
+        (2, 3, 0),
+        (63, 62, 4),
+        (63, 63, 0),
+        (63, 64, 0),
+        (64, 0, 4),
+        (64, 5, 4),
+        (64, 63, 4),
+        (64, 64, 0),
+        (64, 65, 0),
+        (64, 768, 0),
+        (65, 0, 3),
+        (65, 64, 3),
+        (65, 65, 3),
+        (65, 66, 3),
+    ];
+    for (grants, lent, refused) in cases {
+        let called = queue_of(&queue_bytes(12 * grants), lent, OVERWRITING);
+        let answers = if refused == 0 { grants } else { 0 };
+        let after = (refused, opened(answers, lent));
+        assert_eq!(called, after, "{} grants, {} lent", grants, lent);
+    }
+}
+
+#[test]
+fn a_queue_for_no_right_is_refused() {
+    for (right, refused) in [(0, 7), (1, 0), (2, 0), (3, 7), (4, 7), (255, 7)] {
+        let answers = if refused == 0 { 2 } else { 0 };
+        let called = queue_of(&queue_bytes(24), 3, right);
+        assert_eq!(called, (refused, opened(answers, 3)), "right {}", right);
+    }
+}
+
+/// No grant is checked then, so that 1, 2 and 7 have to be looked at all the same.
+#[test]
+fn a_queue_of_no_grants_is_refused_for_its_key_its_rounds_and_its_right() {
+    let roll = roll_at(0);
+    let cases = [
+        (12, 10, READING, 0),
+        (12, 11, OVERWRITING, 0),
+        (11, 10, READING, 1),
+        (12, 9, READING, 2),
+        (12, 12, OVERWRITING, 2),
+        (12, 10, 0, 7),
+        (12, 10, 3, 7),
+    ];
+    for (length, rounds, right, refused) in cases {
+        for lent in [0, 1, 64, 65] {
+            let mut answers = vec![LENT; lent];
+            let key = &KEY[..length];
+            let called = roll.check_queue(key, rounds, &[], 300, right, &mut answers);
+            assert_eq!(number(called), refused);
+            assert_eq!(answers, vec![LENT; lent]);
+        }
+    }
+}
+
+/// The number of a queue in which the given reasons hold. It has `good` bytes, and `bad`
+/// bytes for reason 3. One byte is lent for each grant, also for one that is not whole;
+/// for reason 4 it is one less than there are whole grants. Every grant opens if it is
+/// looked at, so that a refused call that wrote an answer would show.
+fn queue_call(good: usize, bad: usize, reasons: &[u8]) -> u8 {
+    let holds = |reason: u8| reasons.contains(&reason);
+    let (key, rounds) = key_and_rounds(reasons);
+    let grants = queue_bytes(if holds(3) { bad } else { good });
+    let lent = if holds(4) {
+        grants.len() / 12 - 1
+    } else {
+        (grants.len() + 11) / 12
+    };
+    let right = if holds(7) { 3 } else { OVERWRITING };
+    let mut answers = vec![LENT; lent];
+    let called = roll_at(1).check_queue(key, rounds, &grants, 300, right, &mut answers);
+    let each = if reasons.is_empty() { 0 } else { LENT };
+    assert_eq!(answers, vec![each; lent], "{:?}", reasons);
+    number(called)
+}
+
+/// For reason 3 there is one grant too many.
+fn long_queue_with(reasons: &[u8]) -> u8 {
+    queue_call(768, 780, reasons)
+}
+
+/// For reason 3 the last grant is without its last byte.
+fn cut_queue_with(reasons: &[u8]) -> u8 {
+    queue_call(36, 35, reasons)
+}
+
+/// For reason 3 there is one byte after the last grant.
+fn drawn_out_queue_with(reasons: &[u8]) -> u8 {
+    queue_call(24, 25, reasons)
+}
+
+#[test]
+fn a_queue_is_refused_with_the_first_of_two_reasons() {
+    check_order(&[1, 2, 3, 4, 7], long_queue_with);
+    check_order(&[1, 2, 3, 4, 7], cut_queue_with);
+    check_order(&[1, 2, 3, 4, 7], drawn_out_queue_with);
 }

@@ -4,10 +4,13 @@ use std::collections::BTreeSet;
 
 use curupira_reference::cipher::allowed_rounds;
 use curupira_reference::generator::Generator;
+use curupira_reference::roll::Grant;
 
 use super::{same, same_in_c, text, Tally, INDEPENDENT_STEP, INPUTS, KEY_LENGTHS};
 use crate::interface::LIBRARY;
-use crate::question::{draw_counts, draw_grant, draw_number, enciphered, roll_bytes, Question};
+use crate::question::{
+    draw_counts, draw_grant, draw_number, enciphered, roll_bytes, Counts, Question,
+};
 
 /// The reasons for which a grant of the right length is refused. All of them have
 /// to occur.
@@ -49,10 +52,13 @@ pub fn check(generator: &mut Generator) -> Result<(Tally, usize), String> {
 /// The right in the grant of a question.
 fn right_in_grant(question: &Question) -> u32 {
     let Question {
-        key, rounds, grant, ..
+        key,
+        rounds,
+        grants,
+        ..
     } = question;
     let mut plain = [0; 12];
-    LIBRARY.decipher(key, *rounds, grant, &mut plain);
+    LIBRARY.decipher(key, *rounds, grants, &mut plain);
     u32::from(plain[8])
 }
 
@@ -72,10 +78,25 @@ fn check_question(question: &Question, tally: &mut Tally) -> Result<u32, String>
 
 /// A grant that opens, but for what two draws change.
 fn draw_question(generator: &mut Generator, key_length: usize, rounds: u32) -> Question {
-    let ways = [generator.byte() % WAYS, generator.byte() % WAYS];
     let mut counts = draw_counts(generator);
-    let mut grant = draw_grant(generator, &mut counts);
-    let (size_block, right, place) = (grant.block, grant.right, grant.contractor - 1);
+    let grant = draw_grant(generator, &mut counts);
+    let (size_block, right) = (grant.block, grant.right);
+    let plain = changed(generator, grant, &mut counts);
+    let key = generator.bytes(key_length);
+    Question {
+        grants: enciphered(&key, rounds, &plain),
+        key,
+        rounds,
+        roll: roll_bytes(&counts),
+        size_block,
+        right: u32::from(right),
+    }
+}
+
+/// The plain bytes of a grant, after two draws changed it, or the counts, or nothing.
+pub fn changed(generator: &mut Generator, mut grant: Grant, counts: &mut Counts) -> Vec<u8> {
+    let ways = [generator.byte() % WAYS, generator.byte() % WAYS];
+    let (right, place) = (grant.right, grant.contractor - 1);
     for way in ways {
         match way {
             0 => grant.contractor = 0,
@@ -95,13 +116,5 @@ fn draw_question(generator: &mut Generator, key_length: usize, rounds: u32) -> Q
     if ways.contains(&7) {
         plain[9 + usize::from(generator.byte() % 3)] ^= 1 << (generator.byte() % 8);
     }
-    let key = generator.bytes(key_length);
-    Question {
-        grant: enciphered(&key, rounds, &plain),
-        key,
-        rounds,
-        roll: roll_bytes(&counts),
-        size_block,
-        right: u32::from(right),
-    }
+    plain
 }

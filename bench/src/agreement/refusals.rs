@@ -16,7 +16,7 @@ fn rounds() -> impl Iterator<Item = u32> {
 }
 
 pub fn check(generator: &mut Generator) -> Result<Tally, String> {
-    let bytes = generator.bytes(500);
+    let bytes = generator.bytes(2000);
     let mut tally = Tally::default();
     for key_length in 0..=32 {
         let key = &bytes[..key_length];
@@ -26,6 +26,7 @@ pub fn check(generator: &mut Generator) -> Result<Tally, String> {
                 check_cipher(key, rounds, &bytes[32..32 + block_length], &mut tally)?;
             }
             check_check(key, rounds, &bytes, &mut tally)?;
+            check_queue(key, rounds, &bytes, &mut tally)?;
         }
     }
     check_run(&bytes, &mut tally)?;
@@ -99,7 +100,7 @@ fn check_check(key: &[u8], rounds: u32, bytes: &[u8], tally: &mut Tally) -> Resu
                     key: key.to_vec(),
                     rounds,
                     roll: bytes[..roll_length].to_vec(),
-                    grant: bytes[420..420 + grant_length].to_vec(),
+                    grants: bytes[420..420 + grant_length].to_vec(),
                     size_block: 1,
                     right,
                 };
@@ -110,16 +111,49 @@ fn check_check(key: &[u8], rounds: u32, bytes: &[u8], tally: &mut Tally) -> Resu
     Ok(())
 }
 
-fn check_question(question: &Question, tally: &mut Tally) -> Result<(), String> {
-    let what = format!(
-        "check: key of {} bytes, {} rounds, roll of {}, grant of {}, right {}",
+fn check_queue(key: &[u8], rounds: u32, bytes: &[u8], tally: &mut Tally) -> Result<(), String> {
+    for roll_length in [0, 399, 400, 401] {
+        for grants_length in [0, 11, 12, 13, 767, 768, 769, 780] {
+            for right in [0, 1, 2, 3, u32::MAX] {
+                let question = Question {
+                    key: key.to_vec(),
+                    rounds,
+                    roll: bytes[..roll_length].to_vec(),
+                    grants: bytes[420..420 + grants_length].to_vec(),
+                    size_block: 1,
+                    right,
+                };
+                check_queue_outputs(&question, tally)?;
+            }
+        }
+    }
+    Ok(())
+}
+
+fn check_queue_outputs(question: &Question, tally: &mut Tally) -> Result<(), String> {
+    let what = described("queue", question);
+    let lengths = [0, 1, 63, 64, 65];
+    same_in_c(&what, |one| {
+        lengths.map(|length| answer(length, |out| one.check_queue(question, out)))
+    })?;
+    tally.inputs += lengths.len();
+    Ok(())
+}
+
+/// What is asked, by its lengths and numbers.
+fn described(call: &str, question: &Question) -> String {
+    format!(
+        "{call}: key of {} bytes, {} rounds, roll of {}, grants of {}, right {}",
         question.key.len(),
         question.rounds,
         question.roll.len(),
-        question.grant.len(),
+        question.grants.len(),
         question.right
-    );
-    same_in_c(&what, |one| one.check(question))?;
+    )
+}
+
+fn check_question(question: &Question, tally: &mut Tally) -> Result<(), String> {
+    same_in_c(&described("check", question), |one| one.check(question))?;
     tally.inputs += 1;
     Ok(())
 }

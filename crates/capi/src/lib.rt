@@ -7,6 +7,7 @@ ghost use Rattle.cipher.specs.Cipher.{cipherNumber, cipherOutput};
 ghost use Rattle.lists.specs.Lists.{prepareNumber, prepareOutput};
 ghost use Rattle.key_lists.specs.declared.Direction.the-variants.{Enciphering, Deciphering};
 ghost use Rattle.check_call.specs.CheckCall.{callCode};
+ghost use Rattle.queue_call.specs.QueueCall.{callQueueNumber, callQueueOutput};
 ghost use Rattle.roll_calls.specs.RollCalls.{enterCallNumber, enterCallRoll, withdrawCallNumber, withdrawCallRoll};
 ghost use Rattle.issue_call.specs.IssueCall.{issueCallNumber, issueCallOutput};
 ghost use Rattle.stage_calls.specs.StageCalls.{stageCallNumber, stageCallOutput, subkeyCallOutput};
@@ -74,6 +75,24 @@ pub extern "C" fn gordzila_check(
     ensures { λ r. ⌜ r ≡ callCode (now (key .entry)) rounds (now (roll .entry)) (now (grant .entry)) «size_block» right ⌝ }
 {
     check_call::check(key, rounds, roll, grant, size_block, right)
+}
+
+// Checks a queue of grants for one size block and one right: 0 and a byte for each grant, or the refusal number.
+#[no_mangle]
+pub extern "C" fn gordzila_check_queue(
+    key: &[u8],
+    rounds: u32,
+    roll: &[u8],
+    grants: &[u8],
+    size_block: u32,
+    right: u32,
+    answers: &mut [u8],
+) -> u32
+    ensures { λ r. ⌜ r ≡ callQueueNumber (now (key .entry)) rounds (now (roll .entry)) (now (grants .entry)) right (now (answers .entry)) ⌝ }
+    ensures { λ _. ⌜ now (answers .exit) ≡ callQueueOutput (now (key .entry)) rounds (now (roll .entry)) (now (grants .entry)) «size_block» right
+        (now (answers .entry)) ⌝ }
+{
+    queue_call::check(key, rounds, roll, grants, size_block, right, answers)
 }
 
 // Enters a contractor.

@@ -1,17 +1,23 @@
 -- The known answers hold: those of each crate, and the last stages, closing sums and order lines, which are computed here.
 use mathlib.Core.Path.{_≡_, refl, ap}
-use mathlib.Core.List.{List}
+use mathlib.Core.List.{List, [], _∷_, _++_}
 use Prim.Native.Nat.{ℕ}
-use Rattle.basics.specs.Cases.{Hold, joined}
+use lib.Dec.{eqb}
+use lib.ListN.{length}
+use Rattle.basics.specs.Cases.{Hold, threes, joined}
 use Rattle.basics.proofs.Cases.{_&_}
 use Rattle.field.specs.Field.{times, product, reduced}
 use Rattle.sbox.specs.Sbox.{sbox, tableP, tableQ}
+use Rattle.rounds.specs.Rounds.{round, lastRound, rounds, enciphered, listedFrom, turned}
 use Rattle.refusal.specs.Tries.{first, answered}
 use Rattle.sizes.proofs.KnownAnswers as S
 use Rattle.block_bytes.proofs.KnownAnswers as B
 use Rattle.stages.specs.Columns.{columns, plus, padded, columnRule}
 use Rattle.stages.specs.Stages.{moved, linearStep, constant, stage, zeros, closingSum, subkeyOf}
+use Rattle.stages.specs.KnownAnswers.{keyOf12}
 use Rattle.stages.proofs.KnownAnswers as K
+use Rattle.key_lists.specs.KeyLists.{subkeys, listFor}
+use Rattle.cipher.specs.Cipher.{cipherBlock}
 use Rattle.key_lists.proofs.KnownAnswers as L
 use Rattle.holder.specs.Holder.{whole, blank}
 use Rattle.holder_walk.proofs.KnownAnswers as H
@@ -28,7 +34,15 @@ use Rattle.grant.proofs.KnownAnswers as G
 use Rattle.judging.proofs.KnownAnswers as J
 use Rattle.issuing.proofs.KnownAnswers as I
 use Rattle.checking.proofs.KnownAnswers as C
-use Rattle.cases.specs.KnownAnswers.{knownAnswers, orderAnswers, allKnownAnswers, KnownAnswersHold}
+use Rattle.queue_parts.proofs.KnownAnswers as QP
+use Rattle.roll.specs.declared.Roll.{Roll}
+use Rattle.roll.specs.Roll.{countOf, inStanding}
+use Rattle.grant.specs.Grants.{covers, contractorIn, countIn, sizeBlockIn, isMarked, isGrant}
+use Rattle.judging.specs.Judging.{inputTries, plainTries}
+use Rattle.checking.specs.Checking.{openedGrant}
+use Rattle.queue.specs.Queue.{queueAnswers}
+use Rattle.cases.specs.KnownAnswers.{overwritingOf1, readingOf1, overwritingOf2, overwritingOf3}
+use Rattle.cases.specs.KnownAnswers.{knownAnswers, pileAnswers, orderAnswers, allKnownAnswers, KnownAnswersHold}
 
 -- a holder's bytes, from its stage
 abbrev lent : ℕ → ℕ → List ℕ → List ℕ
@@ -43,6 +57,40 @@ last-stages : Hold knownAnswers
 unfolding knownAnswers sbox tableP tableQ times product reduced columns plus padded columnRule moved linearStep constant stage zeros closingSum holderBytes
 last-stages = of-stage 12 11 refl (of-stage 18 17 refl (of-stage 24 23 refl (refl & refl & refl & tt)))
 
+-- each grant is deciphered once
+opened-a : openedGrant keyOf12 10 overwritingOf1 ≡ threes (0x000100 ∷ 0x010000 ∷ 0x012C02 ∷ 0x475244 ∷ [])
+unfolding openedGrant cipherBlock listFor subkeys turned listedFrom enciphered rounds round lastRound sbox tableP tableQ times product reduced columns plus
+    columnRule moved linearStep constant stage
+opened-a = refl
+
+opened-b : openedGrant keyOf12 10 readingOf1 ≡ threes (0x000100 ∷ 0x010000 ∷ 0x012C01 ∷ 0x475244 ∷ [])
+unfolding openedGrant cipherBlock listFor subkeys turned listedFrom enciphered rounds round lastRound sbox tableP tableQ times product reduced columns plus
+    columnRule moved linearStep constant stage
+opened-b = refl
+
+opened-c : openedGrant keyOf12 10 overwritingOf2 ≡ threes (0x000200 ∷ 0x020000 ∷ 0x012C02 ∷ 0x475244 ∷ [])
+unfolding openedGrant cipherBlock listFor subkeys turned listedFrom enciphered rounds round lastRound sbox tableP tableQ times product reduced columns plus
+    columnRule moved linearStep constant stage
+opened-c = refl
+
+opened-d : openedGrant keyOf12 10 overwritingOf3 ≡ threes (0x000300 ∷ 0x010000 ∷ 0x012C02 ∷ 0x475244 ∷ [])
+unfolding openedGrant cipherBlock listFor subkeys turned listedFrom enciphered rounds round lastRound sbox tableP tableQ times product reduced columns plus
+    columnRule moved linearStep constant stage
+opened-d = refl
+
+-- what its check says, from its plain bytes
+abbrev said : ℕ → List ℕ → List ℕ → ℕ
+said r g p =
+    let roll : Roll = record { counts = 1 ∷ 2 ∷ 3 ∷ [] } in
+    first (inputTries 12 10 (eqb (length g) 12) r ++ plainTries p (countOf roll (contractorIn p)) 300 r)
+
+piles : Hold pileAnswers
+unfolding pileAnswers queueAnswers listedFrom first countOf inStanding covers contractorIn countIn sizeBlockIn isMarked isGrant
+piles =
+    (λ j. said 2 overwritingOf1 (opened-a j) ∷ said 2 readingOf1 (opened-b j) ∷ said 2 overwritingOf2 (opened-c j) ∷ said 2 overwritingOf3 (opened-d j) ∷ [])
+    & (λ j. said 1 overwritingOf1 (opened-a j) ∷ said 1 readingOf1 (opened-b j) ∷ said 1 overwritingOf2 (opened-c j) ∷ said 1 overwritingOf3 (opened-d j) ∷ [])
+    & tt
+
 orders : Hold orderAnswers
 unfolding orderAnswers first answered whole blank holderOf walkCallCode
 orders = refl & refl & refl & refl & refl & refl & refl & refl & refl & refl & refl & refl & tt
@@ -54,4 +102,5 @@ known-answers-hold =
     & H.known-answers & HB.known-answers & HC.known-answers & HW.known-answers
     & N.known-answers & R.known-answers & RC.known-answers & RB.known-answers
     & G.known-answers & J.known-answers & I.known-answers & C.known-answers
-    & last-stages & orders & tt
+    & QP.known-answers
+    & last-stages & piles & orders & tt

@@ -1,9 +1,10 @@
 -- The known answers: beside document 01's thirteen cases, a second list of computed facts, which pins definitions that no case of document 01
 -- pins. What is expected is what the independent program prints, line by line (`reference answers`); `tools/known-answers` compares the two.
--- Each crate has those of its definitions beside them; here stand the last stages, with their
--- subkeys and holders, the closing sums, and the claim over them all. Where that program has no such call, document 01's order lines are taken as
--- they stand.
+-- Each crate has those of its definitions beside them; here stand those that take long to compute, the last stages with their subkeys and holders,
+-- the closing sums and a queue of four grants, and the claim over them all. Where that program has no such call, document 01's order lines are taken
+-- as they stand.
 use mathlib.Core.List.{List, [], _∷_}
+use Prim.Native.Nat.{ℕ}
 use lib.ListN.{replicate}
 use Rattle.basics.specs.Cases.{Case, _is_, HoldAll, threes, joined}
 use Rattle.sizes.specs.KnownAnswers as S
@@ -34,6 +35,8 @@ use Rattle.grant.specs.KnownAnswers as G
 use Rattle.judging.specs.KnownAnswers as J
 use Rattle.issuing.specs.KnownAnswers as I
 use Rattle.checking.specs.KnownAnswers as C
+use Rattle.queue_parts.specs.KnownAnswers as QP
+use Rattle.queue.specs.Queue.{queueAnswers}
 
 -- the last stage of a key of each size, its subkey and the holder there, and the closing sums
 unfoldable pub knownAnswers : List Case
@@ -62,6 +65,31 @@ knownAnswers =
     ∷ (closingSum 3 is threes (0x1377E3 ∷ 0xAABF5A ∷ 0xD61138 ∷ 0xC08949 ∷ 0xFDAE13 ∷ 0x124E6B ∷ []))
     -- closing 24
     ∷ (closingSum 4 is threes (0xDE830C ∷ 0x372888 ∷ 0x1AD622 ∷ 0x3F464E ∷ 0x18ED16 ∷ 0x7CAD89 ∷ 0x9C8707 ∷ 0x980488 ∷ []))
+    ∷ []
+
+-- four grants for size block 300: two of contractor 1, to overwrite and to read, and one each of contractors 2 and 3, to overwrite
+abbrev pub overwritingOf1 : List ℕ
+overwritingOf1 = threes (0xB417AE ∷ 0x7E1AC7 ∷ 0x3FD1F5 ∷ 0x39778B ∷ [])
+
+abbrev pub readingOf1 : List ℕ
+readingOf1 = threes (0xA02BB5 ∷ 0x8A47F6 ∷ 0x6F97A1 ∷ 0x612E3D ∷ [])
+
+abbrev pub overwritingOf2 : List ℕ
+overwritingOf2 = threes (0xC7F8AD ∷ 0xDE77CD ∷ 0xB748D2 ∷ 0x10E78D ∷ [])
+
+abbrev pub overwritingOf3 : List ℕ
+overwritingOf3 = threes (0x2C100F ∷ 0x1A8C1A ∷ 0x855F58 ∷ 0x9773B9 ∷ [])
+
+-- in one queue: the check of each, where contractors 1, 2 and 3 have their numbers as counts. Contractor 2 is not in standing, and the grant of
+-- contractor 3 is from an earlier one
+unfoldable pub pileAnswers : List Case
+pileAnswers =
+    -- queue 0f1e2d3c4b5a69788796a5b4 10 1,2,3 b417ae7e1ac73fd1f539778ba02bb58a47f66f97a1612e3dc7f8adde77cdb748d210e78d2c100f1a8c1a855f589773b9 300 2
+    (queueAnswers keyOf12 10 record { counts = 1 ∷ 2 ∷ 3 ∷ [] } (joined (overwritingOf1 ∷ readingOf1 ∷ overwritingOf2 ∷ overwritingOf3 ∷ [])) 300 2
+    is (0 ∷ 10 ∷ 20 ∷ 23 ∷ []))
+    -- queue 0f1e2d3c4b5a69788796a5b4 10 1,2,3 b417ae7e1ac73fd1f539778ba02bb58a47f66f97a1612e3dc7f8adde77cdb748d210e78d2c100f1a8c1a855f589773b9 300 1
+    ∷ (queueAnswers keyOf12 10 record { counts = 1 ∷ 2 ∷ 3 ∷ [] } (joined (overwritingOf1 ∷ readingOf1 ∷ overwritingOf2 ∷ overwritingOf3 ∷ [])) 300 1
+    is (0 ∷ 0 ∷ 20 ∷ 23 ∷ []))
     ∷ []
 
 -- document 01's order lines of the other calls, where two neighbours hold together
@@ -106,7 +134,9 @@ allKnownAnswers =
     ∷ J.knownAnswers
     ∷ I.knownAnswers
     ∷ C.knownAnswers
+    ∷ QP.knownAnswers
     ∷ knownAnswers
+    ∷ pileAnswers
     ∷ orderAnswers
     ∷ []
 

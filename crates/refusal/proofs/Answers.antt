@@ -6,8 +6,8 @@ use mathlib.Core.List.{List, _++_, append-nil}
 use Prim.Native.Nat.{ℕ, _≤_, _<_}
 use native.Mathlib.Omega.{arith}
 use lib.Dec.{eqb}
-use lib.ListN.{length, take, drop, length-append, drop-of-length-le}
-use lib.Seq.{take-at}
+use lib.ListN.{length, getD, take, drop, length-append, length-drop, drop-of-length-le, List·getD-append}
+use lib.Seq.{take-at, drop-at}
 use borrow.Author.Tests.{eq-eqb, ne-eqb, eqb-true}
 use Rattle.refusal.specs.Tries.{Try, first, written, answered}
 
@@ -34,6 +34,19 @@ starts n bytes out e =
       omega (arith, length-append bytes (drop (length bytes) out), ap length w),
       ap (take (length bytes)) (sym w) ∙ take-at bytes (drop (length bytes) out) (length bytes) refl,
     )
+
+-- each byte of it, and what stands after them
+module _ (n : ℕ) (bytes out : List ℕ) (e : n ≡ 0) where
+  pub put-each : (i : ℕ) → i < length bytes → getD (written n bytes out) i 0 ≡ getD bytes i 0
+  put-each i h = ap (λ (l : List ℕ). getD l i 0) (sym (put n bytes out e)) ∙ List·getD-append bytes (drop (length bytes) out) 0 i h
+
+  pub put-same : length bytes ≤ length out → length (written n bytes out) ≡ length out
+  put-same h =
+      let m = length bytes in
+      ap length (sym (put n bytes out e)) ∙ omega (arith, length-append bytes (drop m out), length-drop m out)
+
+  pub put-rest : (k : ℕ) → length bytes ≡ k → drop k (written n bytes out) ≡ drop k out
+  put-rest k l = ap (drop k) (sym (put n bytes out e)) ∙ drop-at bytes (drop (length bytes) out) k l ∙ ap (λ (m : ℕ). drop m out) l
 
 -- a refusal with the number n
 pub refuses : (ts : List Try) (n : ℕ) (bytes out : List ℕ) → 0 < n → first ts ≡ n → (n ≡ first ts) × (out ≡ written (first ts) bytes out)

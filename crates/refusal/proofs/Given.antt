@@ -18,7 +18,7 @@ others n (t ∷ ts) = not (eqb (t .number) n) && others n ts
 apart : (m n : ℕ) → not (eqb m n) ≡ true → m ≡ n → ⊥
 apart m n e h = true≢false (sym e ∙ ap not (eq-eqb m n h))
 
-not-given : (n : ℕ) → 0 < n → (ts : List Try) → others n ts ≡ true → first ts ≡ n → ⊥
+pub not-given : (n : ℕ) → 0 < n → (ts : List Try) → others n ts ≡ true → first ts ≡ n → ⊥
 unfolding first
 not-given n h [] o e = omega (arith, h, e)
 not-given n h (t ∷ ts) o e = by (t .passes) refl (not-given n h ts (and-second (not (eqb (t .number) n)) (others n ts) o))

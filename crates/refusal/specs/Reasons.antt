@@ -1,4 +1,5 @@
--- The numbers of the reasons: document 01, "Reasons found in the input" and "Reasons found in the state"; 10 as request 1 has it.
+-- The numbers of the reasons: document 01, "Reasons found in the input" and "Reasons found in the state"; 10 as request 1 has it, 3 and 4
+-- also as request 2 has them.
 use Prim.Native.Nat.{ℕ}
 use Rattle.refusal.specs.declared.Reason.{Reason}
 use Rattle.refusal.specs.declared.Reason.the-variants.{KeyLength, RoundCount, InputLength, OutputTooShort, StageOrList, Contractor, UnknownRight}
@@ -12,9 +13,9 @@ abbrev pub reasonNumber : Reason → ℕ
 reasonNumber KeyLength = 1
 -- round count outside the table's row
 reasonNumber RoundCount = 2
--- block or grant not 12 bytes; in the C call also a roll not 400 bytes
+-- block or grant not 12 bytes; a queue of grants whose length is over 768 or not a multiple of 12; in the C call also a roll not 400 bytes
 reasonNumber InputLength = 3
--- output too short
+-- output too short; of a queue, fewer bytes for the answers than grants
 reasonNumber OutputTooShort = 4
 -- stage number 6t or more; or a subkey list whose length is under 132, over 288 or not a multiple of 12
 reasonNumber StageOrList = 5

@@ -48,6 +48,10 @@ module _ (key : List ℕ) (rounds : ℕ) (roll : Roll) (grant : List ℕ) (block
   pub passed : checkNumber key rounds roll grant block right ≡ 0 → NoneHolds (checkTries key rounds roll grant block right)
   passed e = all-pass (checkTries key rounds roll grant block right) refl e
 
+  -- the grant's contractor is in standing
+  pub stands : checkNumber key rounds roll grant block right ≡ 0 → inStanding (countOf roll (contractorIn (openedGrant key rounds grant))) ≡ true
+  stands e = passed e .1 .1 .1 .1 .1 .1 .1 .0
+
   pub opening : AreBytes key → AreBytes grant → checkNumber key rounds roll grant block right ≡ 0 → Opening key rounds roll grant block right
   unfolding p
   opening hk hg e =

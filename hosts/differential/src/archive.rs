@@ -26,6 +26,7 @@ pub fn archive(call: Call, lent: &Lent) -> u32 {
         Call::Run => raw::run_number(list, block, write(lent.out)),
         Call::Issue => issue(key, lent),
         Call::Check => check(key, block, lent),
+        Call::CheckQueue => check_queue(key, block, lent),
         Call::Enter => raw::enter_number(write(lent.roll), lent.contractor),
         Call::Withdraw => raw::withdraw_number(write(lent.roll), lent.contractor),
         Call::Stage => raw::stage_number(key, lent.stage, write(lent.out)),
@@ -58,6 +59,18 @@ fn check(key: &[u8], grant: &[u8], lent: &Lent) -> u32 {
         grant,
         lent.size_block,
         lent.right,
+    )
+}
+
+fn check_queue(key: &[u8], grants: &[u8], lent: &Lent) -> u32 {
+    raw::check_queue_number(
+        key,
+        lent.rounds,
+        read(lent.roll),
+        grants,
+        lent.size_block,
+        lent.right,
+        write(lent.out),
     )
 }
 

@@ -4,7 +4,7 @@
 use crate::order;
 
 /// A call.
-#[derive(Clone, Copy, Debug, PartialEq, Eq, Hash)]
+#[derive(Clone, Copy, Debug, PartialEq, Eq, PartialOrd, Ord, Hash)]
 pub enum Call {
     Encipher,
     Decipher,
@@ -13,6 +13,7 @@ pub enum Call {
     Run,
     Issue,
     Check,
+    CheckQueue,
     Enter,
     Withdraw,
     Stage,
@@ -35,6 +36,7 @@ pub enum Argument {
     List,
     Block,
     Grant,
+    Grants,
     Contractor,
     SizeBlock,
     Right,
@@ -45,7 +47,7 @@ use Argument as A;
 
 impl Call {
     /// All calls.
-    pub const ALL: [Call; 16] = [
+    pub const ALL: [Call; 17] = [
         Call::Encipher,
         Call::Decipher,
         Call::PrepareEnciphering,
@@ -53,6 +55,7 @@ impl Call {
         Call::Run,
         Call::Issue,
         Call::Check,
+        Call::CheckQueue,
         Call::Enter,
         Call::Withdraw,
         Call::Stage,
@@ -80,6 +83,7 @@ impl Call {
             Call::Run => "run",
             Call::Issue => "issue",
             Call::Check => "check",
+            Call::CheckQueue => "check_queue",
             Call::Enter => "enter",
             Call::Withdraw => "withdraw",
             Call::Stage => "stage",
@@ -108,6 +112,15 @@ impl Call {
                 A::Out,
             ],
             Call::Check => &[A::Key, A::Rounds, A::Roll, A::Grant, A::SizeBlock, A::Right],
+            Call::CheckQueue => &[
+                A::Key,
+                A::Rounds,
+                A::Roll,
+                A::Grants,
+                A::SizeBlock,
+                A::Right,
+                A::Out,
+            ],
             Call::Enter | Call::Withdraw => &[A::Roll, A::Contractor],
             Call::Stage | Call::Subkey => &[A::Key, A::Stage, A::Out],
             Call::HolderMake => &[A::Key, A::Out],

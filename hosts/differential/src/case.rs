@@ -17,7 +17,7 @@ pub struct Case {
     pub holder: Vec<u8>,
     /// A subkey list.
     pub list: Vec<u8>,
-    /// A block, or a grant.
+    /// A block, a grant, or the grants of a queue, one after the other.
     pub block: Vec<u8>,
     pub contractor: u32,
     pub size_block: u32,
@@ -60,6 +60,7 @@ impl Case {
             Argument::List => format!("list={}", hex(&self.list)),
             Argument::Block => format!("block={}", hex(&self.block)),
             Argument::Grant => format!("grant={}", hex(&self.block)),
+            Argument::Grants => format!("grants={}", hex(&self.block)),
             Argument::Contractor => format!("contractor={}", self.contractor),
             Argument::SizeBlock => format!("size_block={}", self.size_block),
             Argument::Right => format!("right={}", self.right),
@@ -81,8 +82,18 @@ impl fmt::Display for Case {
     }
 }
 
-/// Bytes in hex, with their number before them.
+/// The digits of hex.
+const DIGITS: [char; 16] = [
+    '0', '1', '2', '3', '4', '5', '6', '7', '8', '9', 'a', 'b', 'c', 'd', 'e', 'f',
+];
+
+/// Bytes in hex, with their number before them. The digits are looked up: to format byte by byte would
+/// take most of the time of the tests, where many bytes differ.
 pub fn hex(bytes: &[u8]) -> String {
-    let digits: String = bytes.iter().map(|byte| format!("{byte:02x}")).collect();
-    format!("{}:{digits}", bytes.len())
+    let mut text = format!("{}:", bytes.len());
+    for &byte in bytes {
+        text.push(DIGITS[usize::from(byte >> 4)]);
+        text.push(DIGITS[usize::from(byte & 15)]);
+    }
+    text
 }

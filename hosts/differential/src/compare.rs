@@ -29,7 +29,7 @@ pub fn differences(
         ("roll", &loan.roll, &effect.roll),
         ("holder", &loan.holder, &effect.holder),
         ("list", &loan.list, &case.list),
-        ("block or grant", &loan.block, &case.block),
+        ("block or grants", &loan.block, &case.block),
         ("out", &loan.out, &after),
     ];
     for (name, guarded, right) in parts {

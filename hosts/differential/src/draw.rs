@@ -1,8 +1,8 @@
 //! Draws cases from a family: one that is right, or nearly so, and then spoilt in some arguments.
 
-use crate::call::Call;
+use crate::call::{Argument, Call};
 use crate::case::Case;
-use crate::expect::{needed, BLOCK_BYTES, OVERWRITING, READING};
+use crate::expect::{needed, BLOCK_BYTES, OVERWRITING, QUEUE_GRANTS, READING};
 use crate::family::{self, Family, Held};
 use crate::holders;
 use crate::oracle::{Oracle, Way};
@@ -11,7 +11,7 @@ use crate::rolls::set_count;
 use crate::spoil::spoil;
 
 /// How often each call is drawn.
-const WEIGHTS: [(Call, usize); 16] = [
+const WEIGHTS: [(Call, usize); 17] = [
     (Call::Encipher, 10),
     (Call::Decipher, 10),
     (Call::PrepareEnciphering, 7),
@@ -19,6 +19,7 @@ const WEIGHTS: [(Call, usize); 16] = [
     (Call::Run, 12),
     (Call::Issue, 14),
     (Call::Check, 24),
+    (Call::CheckQueue, 11),
     (Call::Enter, 10),
     (Call::Withdraw, 8),
     (Call::Stage, 7),
@@ -66,6 +67,7 @@ fn right_case(call: Call, family: &Family, oracle: &mut Oracle, random: &mut Ran
         Call::Run => with_list(&mut case, family, oracle, random),
         Call::Issue => with_request(&mut case, family, random),
         Call::Check => with_grant(&mut case, family, random),
+        Call::CheckQueue => with_queue(&mut case, family, random),
         Call::Enter | Call::Withdraw => with_roll(&mut case, family, random),
         Call::Stage | Call::Subkey => {
             case.key = family.key.clone();
@@ -80,7 +82,7 @@ fn right_case(call: Call, family: &Family, oracle: &mut Oracle, random: &mut Ran
             case.stage = some_end(&case.holder, random);
         }
     }
-    if needed(&case) > 0 {
+    if call.arguments().contains(&Argument::Out) {
         case.out = needed(&case) as usize + some_rest(random);
     }
     case
@@ -204,5 +206,64 @@ fn some_roll(held: &Held, family: &Family, random: &mut Random) -> Vec<u8> {
         5 | 6 => family::changed(&held.roll, family::some_contractor(random), few),
         7 => random.pick(&family.rolls),
         _ => held.roll.clone(),
+    }
+}
+
+/// Some grants on one roll, asked for one size block, that of the family's first grant, and for
+/// either right.
+fn with_queue(case: &mut Case, family: &Family, random: &mut Random) {
+    let held = &family.held[0];
+    case.key = family.key.clone();
+    case.rounds = family.rounds;
+    case.size_block = held.size_block;
+    case.right = random.pick(&[READING, OVERWRITING]);
+    case.roll = some_roll(held, family, random);
+    let mut grants: Vec<Vec<u8>> = match random.below(4) {
+        0 => vec![some_queued(family, random); some_queue(random)],
+        _ => (0..some_queue(random))
+            .map(|_| some_queued(family, random))
+            .collect(),
+    };
+    if let Some(place) = some_place(grants.len(), random) {
+        grants[place] = match random.below(16) {
+            0 => random.bytes(BLOCK_BYTES),
+            _ => some_queued(family, random),
+        };
+    }
+    case.block = grants.concat();
+}
+
+/// The number of grants in a queue: often none, one, two, or as many as there can be.
+fn some_queue(random: &mut Random) -> usize {
+    match random.below(16) {
+        0 | 1 => 0,
+        2..=4 => 1,
+        5..=7 => 2,
+        8 => QUEUE_GRANTS - 1,
+        9 => QUEUE_GRANTS,
+        10 | 11 => random.below(QUEUE_GRANTS + 1),
+        _ => 3 + random.below(10),
+    }
+}
+
+/// A place in a queue of so many grants, if it has one: often the first or the last.
+fn some_place(grants: usize, random: &mut Random) -> Option<usize> {
+    let place = match random.below(3) {
+        0 => 0,
+        1 => grants.saturating_sub(1),
+        _ => random.below(grants),
+    };
+    (place < grants).then_some(place)
+}
+
+/// A grant for a queue around the family's first grant: that one, one that was made of it, one of
+/// another roll, or one beside it. They belong to the family, and few have to be deciphered.
+fn some_queued(family: &Family, random: &mut Random) -> Vec<u8> {
+    let [held, other] = [&family.held[0], &family.held[1]];
+    match random.below(8) {
+        0 | 1 => held.grant.clone(),
+        2 => held.tampered[0].clone(),
+        3 => other.grant.clone(),
+        _ => random.pick(&family.beside),
     }
 }

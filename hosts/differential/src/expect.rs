@@ -13,6 +13,9 @@ use crate::rolls::{self, count, in_standing, is_contractor, ROLL_BYTES};
 /// The bytes of a block, and of a grant.
 pub const BLOCK_BYTES: usize = 12;
 
+/// The most grants in a queue.
+pub const QUEUE_GRANTS: usize = 64;
+
 /// The bytes of a stage.
 pub const STAGE_BYTES: usize = 24;
 
@@ -27,7 +30,7 @@ pub const READING: u32 = 1;
 pub const OVERWRITING: u32 = 2;
 
 /// The reasons of a check that are seen in what was deciphered.
-const SEEN_IN_A_GRANT: [u32; 5] = [8, 9, 10, 20, 23];
+pub const SEEN_IN_A_GRANT: [u32; 5] = [8, 9, 10, 20, 23];
 
 /// What a call does.
 #[derive(Clone, Debug, PartialEq, Eq)]
@@ -46,16 +49,27 @@ pub struct Effect {
 pub struct Expected {
     pub effect: Effect,
     pub reasons: Vec<u32>,
+    /// Of each grant in a queue that is not refused as a whole, all reasons for which the grant does
+    /// not open, in the order of the single check.
+    pub grants: Vec<Vec<u32>>,
 }
 
 /// What the call of a case has to do.
 pub fn expected(case: &Case, oracle: &mut Oracle) -> Expected {
     let reasons = reasons(case, oracle);
+    let grants = match case.call {
+        Call::CheckQueue if reasons.is_empty() => queued(case, oracle),
+        _ => Vec::new(),
+    };
     let effect = match reasons.first() {
         Some(&reason) => only_answered(case, reason),
-        None => success(case, oracle),
+        None => success(case, &grants, oracle),
     };
-    Expected { effect, reasons }
+    Expected {
+        effect,
+        reasons,
+        grants,
+    }
 }
 
 /// What a call does that answers and writes nothing. Every refusal is like that.
@@ -84,6 +98,7 @@ pub fn needed(case: &Case) -> u64 {
         Call::PrepareEnciphering | Call::PrepareDeciphering => 12 * (u64::from(case.rounds) + 1),
         Call::Stage => STAGE_BYTES as u64,
         Call::HolderMake => HOLDER_BYTES as u64,
+        Call::CheckQueue => (case.block.len() / BLOCK_BYTES) as u64,
         Call::Check | Call::Enter | Call::Withdraw => 0,
         Call::HolderForward | Call::HolderBack | Call::HolderWalk => 0,
         _ => BLOCK_BYTES as u64,
@@ -93,7 +108,7 @@ pub fn needed(case: &Case) -> u64 {
 /// All reasons that hold, in the order of the call. Left out is what has no meaning because of
 /// another reason.
 fn reasons(case: &Case, oracle: &mut Oracle) -> Vec<u32> {
-    let opened = deciphers(case).then(|| opened(case, oracle));
+    let opened = deciphers(case).then(|| opened(case, &case.block, oracle));
     let order = case.call.reasons().iter().copied();
     let holding = order.filter(|&reason| match case.call {
         Call::Check if SEEN_IN_A_GRANT.contains(&reason) => opened
@@ -128,15 +143,20 @@ fn holds(case: &Case, reason: u32) -> bool {
     }
 }
 
-/// Whether the block, the grant or the roll has a wrong length.
+/// Whether the block, the grant, the queue or the roll has a wrong length.
 fn wrong_input(case: &Case) -> bool {
     let wrong_block = case.block.len() != BLOCK_BYTES;
     let wrong_roll = case.roll.len() != ROLL_BYTES;
     match case.call {
         Call::Check => wrong_block || wrong_roll,
+        Call::CheckQueue => wrong_queue(case.block.len()) || wrong_roll,
         Call::Issue | Call::Enter | Call::Withdraw => wrong_roll,
         _ => wrong_block,
     }
+}
+
+fn wrong_queue(length: usize) -> bool {
+    length % BLOCK_BYTES != 0 || length > BLOCK_BYTES * QUEUE_GRANTS
 }
 
 fn wrong_list(length: usize) -> bool {
@@ -175,14 +195,28 @@ fn holds_of_grant(case: &Case, grant: Option<&Grant>, reason: u32) -> bool {
     }
 }
 
-/// The grant of a case deciphered, if it is one.
-fn opened(case: &Case, oracle: &mut Oracle) -> Option<Grant> {
-    let plain = oracle.block(Way::Decipher, &case.key, case.rounds, &case.block);
+/// Of each grant in a queue, all reasons for which it does not open. The key, the round count, the
+/// lengths and the right are right.
+fn queued(case: &Case, oracle: &mut Oracle) -> Vec<Vec<u32>> {
+    let order = Call::Check.reasons().iter().copied();
+    let order: Vec<u32> = order.filter(|r| SEEN_IN_A_GRANT.contains(r)).collect();
+    let holding = |bytes: &[u8]| {
+        let grant = opened(case, bytes, oracle);
+        let order = order.iter().copied();
+        let holding = order.filter(|&reason| holds_of_grant(case, grant.as_ref(), reason));
+        holding.collect()
+    };
+    case.block.chunks(BLOCK_BYTES).map(holding).collect()
+}
+
+/// What the bytes of a grant decipher to, if that is one, under the key of a case.
+fn opened(case: &Case, grant: &[u8], oracle: &mut Oracle) -> Option<Grant> {
+    let plain = oracle.block(Way::Decipher, &case.key, case.rounds, grant);
     Grant::from_plain_bytes(&plain).ok()
 }
 
-/// What the call of a case does where no reason holds.
-fn success(case: &Case, oracle: &mut Oracle) -> Effect {
+/// What the call of a case does where no reason holds; `grants` has those of each grant in a queue.
+fn success(case: &Case, grants: &[Vec<u32>], oracle: &mut Oracle) -> Effect {
     let mut effect = only_answered(case, 0);
     let (key, rounds) = (&case.key, case.rounds);
     match case.call {
@@ -193,6 +227,7 @@ fn success(case: &Case, oracle: &mut Oracle) -> Effect {
         Call::Run => effect.written = Oracle::run(&case.list, &case.block),
         Call::Issue => effect.written = oracle.block(Way::Encipher, key, rounds, &plain(case)),
         Call::Check => effect.answer = opening(case, oracle),
+        Call::CheckQueue => effect.written = grants.iter().map(|one| byte(one)).collect(),
         Call::Enter | Call::Withdraw => {
             let next = count(&case.roll, case.contractor) + 1;
             rolls::set_count(&mut effect.roll, case.contractor, next);
@@ -245,8 +280,13 @@ fn plain(case: &Case) -> Vec<u8> {
     grant.plain_bytes()
 }
 
+/// The byte of a grant in a queue: 0, or the first of the reasons for which it does not open.
+fn byte(reasons: &[u32]) -> u8 {
+    reasons.first().map_or(0, |&reason| reason as u8)
+}
+
 /// The answer to a grant that opens: it has the right asked for, whichever the grant has.
 fn opening(case: &Case, oracle: &mut Oracle) -> u32 {
-    let grant = opened(case, oracle).expect("a grant that opens is a grant");
+    let grant = opened(case, &case.block, oracle).expect("a grant that opens is a grant");
     1000 * case.right + u32::from(grant.contractor)
 }

@@ -12,6 +12,7 @@ use crate::rolls::{self, count, model, set_count, ROLL_BYTES};
 const BLOCKS: usize = 3;
 const ROLLS: usize = 3;
 const HELD: usize = 2;
+const BESIDE: usize = 6;
 
 /// For each grant, so many others that were tampered with.
 const TAMPERED: usize = 5;
@@ -26,6 +27,9 @@ pub struct Family {
     pub blocks: Vec<Vec<u8>>,
     pub rolls: Vec<Vec<u8>>,
     pub held: Vec<Held>,
+    /// Grants for the size block of the first grant that is held, for any contractors, and forged
+    /// ones.
+    pub beside: Vec<Vec<u8>>,
 }
 
 /// A grant, the roll with which it opens, and what was made of the grant.
@@ -48,8 +52,12 @@ impl Family {
             blocks: (0..BLOCKS).map(|_| bytes(BLOCK_BYTES, random)).collect(),
             rolls: (0..ROLLS).map(|_| roll(random)).collect(),
             held: Vec::new(),
+            beside: Vec::new(),
         };
         family.held = (0..HELD).map(|_| family.hold(oracle, random)).collect();
+        family.beside = (0..BESIDE)
+            .map(|_| family.stand_beside(&family.held[0], oracle, random))
+            .collect();
         family
     }
 
@@ -84,6 +92,27 @@ impl Family {
             grant: issued,
             tampered,
         }
+    }
+
+    /// A grant for the size block of one that is held, with any contractor's count on its roll or,
+    /// once in four times, on another. Now and then it is forged.
+    fn stand_beside(&self, held: &Held, oracle: &mut Oracle, random: &mut Random) -> Vec<u8> {
+        let roll = match random.below(4) {
+            0 => random.pick(&self.rolls),
+            _ => held.roll.clone(),
+        };
+        let contractor = some_contractor(random);
+        let grant = Grant {
+            contractor: contractor as u16,
+            count: count(&roll, contractor),
+            block: held.size_block,
+            right: random.pick(&[1, 2]),
+        };
+        let mut plain = grant.plain_bytes();
+        if random.once_in(4) {
+            plain = forged(&plain, random);
+        }
+        oracle.made_of(&self.key, self.rounds, &plain)
     }
 }
 

@@ -11,6 +11,9 @@ use crate::case::Case;
 use crate::expect::{needed, only_answered, Effect, BLOCK_BYTES};
 use crate::rolls::{self, model, ROLL_BYTES};
 
+/// What stands where an answer to a grant in a queue is to be written. It is no answer.
+const UNANSWERED: u8 = 0xee;
+
 /// What the independent program does, or nothing where it has no such call or does not take what
 /// the case gives.
 pub fn second(case: &Case) -> Option<Effect> {
@@ -18,6 +21,7 @@ pub fn second(case: &Case) -> Option<Effect> {
         Call::Encipher | Call::Decipher => cipher(case),
         Call::Issue => issue(case),
         Call::Check => check(case),
+        Call::CheckQueue => queue(case),
         Call::Enter | Call::Withdraw => roll(case),
         Call::HolderMake => Some(output(case, |out| holder::make(&case.key, out))),
         Call::HolderForward | Call::HolderBack | Call::HolderWalk => Some(moved(case)),
@@ -26,12 +30,15 @@ pub fn second(case: &Case) -> Option<Effect> {
     }
 }
 
-/// Whether a second opinion costs next to nothing.
-pub fn is_cheap(call: Call) -> bool {
-    matches!(
-        call,
-        Call::Enter | Call::Withdraw | Call::HolderMake | Call::HolderSubkey
-    )
+/// What a second opinion costs, roughly, if most cost 1. It costs next to nothing where nothing is
+/// deciphered, and more for a queue the more grants it answers.
+pub fn cost(case: &Case, effect: &Effect) -> u64 {
+    match case.call {
+        Call::Enter | Call::Withdraw | Call::HolderMake | Call::HolderSubkey => 0,
+        Call::CheckQueue if effect.written.is_empty() => 0,
+        Call::CheckQueue => 1 + effect.written.len() as u64 / 2,
+        _ => 1,
+    }
 }
 
 fn cipher(case: &Case) -> Option<Effect> {
@@ -74,6 +81,31 @@ fn check(case: &Case) -> Option<Effect> {
         Err(refusal) => number(refusal),
     };
     Some(only_answered(case, answer))
+}
+
+fn queue(case: &Case) -> Option<Effect> {
+    if case.roll.len() != ROLL_BYTES {
+        return None;
+    }
+    let right = u8::try_from(case.right).ok()?;
+    let (key, rounds) = (&case.key, case.rounds as usize);
+    let mut answers = vec![UNANSWERED; case.out];
+    let result = model(&case.roll).check_queue(
+        key,
+        rounds,
+        &case.block,
+        case.size_block,
+        right,
+        &mut answers,
+    );
+    // All that was written is kept, whatever the number is and however far it goes.
+    while answers.last() == Some(&UNANSWERED) {
+        answers.pop();
+    }
+    Some(Effect {
+        written: answers,
+        ..only_answered(case, result.map_or_else(number, |()| 0))
+    })
 }
 
 fn roll(case: &Case) -> Option<Effect> {

@@ -2,7 +2,7 @@
 
 use crate::call::{Argument, Call};
 use crate::case::Case;
-use crate::expect::needed;
+use crate::expect::{needed, BLOCK_BYTES, QUEUE_GRANTS};
 use crate::family::{self, one_bit_changed};
 use crate::holders::HOLDER_BYTES;
 use crate::random::Random;
@@ -21,6 +21,10 @@ const NAMED_LENGTHS: [u8; 11] = [0, 11, 13, 17, 19, 23, 25, 255, 12, 18, 24];
 
 /// Lengths of no block and no grant. The last two differ from 12 by 256 and by 65,536.
 const BLOCK_LENGTHS: [usize; 8] = [0, 1, 11, 13, 16, 24, 268, 65_548];
+
+/// Lengths of no queue: bytes that are not whole grants, and more than 64 grants. Of the last four,
+/// the number of bytes or that of grants is right if it is cut to 8 or 16 bits.
+const QUEUE_LENGTHS: [usize; 12] = [1, 6, 11, 13, 767, 769, 775, 792, 1024, 3072, 3084, 65_548];
 
 /// Lengths of no list. The last two differ from 132 by 256 and by 65,536.
 const LIST_LENGTHS: [usize; 14] = [
@@ -43,6 +47,7 @@ pub fn spoil(case: &mut Case, argument: Argument, random: &mut Random) {
             let length = random.pick(&BLOCK_LENGTHS);
             resize(&mut case.block, length, random);
         }
+        Argument::Grants => spoil_queue(case, random),
         Argument::Contractor => case.contractor = other_contractor(random),
         Argument::SizeBlock => case.size_block = other_size_block(case.size_block, random),
         Argument::Right => case.right = other_right(case.right, random),
@@ -169,6 +174,26 @@ fn spoil_list(case: &mut Case, random: &mut Random) {
     resize(&mut case.list, length, random);
 }
 
+/// A queue of a wrong length, or mostly so, often of one grant too many. Where it grows, its bytes
+/// come again. Once in two times the output grows or shrinks with it.
+fn spoil_queue(case: &mut Case, random: &mut Random) {
+    let own = case.block.len();
+    let length = match random.below(8) {
+        0..=2 => BLOCK_BYTES * (QUEUE_GRANTS + 1),
+        3 => own + 1,
+        4 => own.saturating_sub(1),
+        5 => own + BLOCK_BYTES,
+        _ => random.pick(&QUEUE_LENGTHS),
+    };
+    match own {
+        0 => resize(&mut case.block, length, random),
+        _ => case.block = case.block.iter().copied().cycle().take(length).collect(),
+    }
+    if random.once_in(2) {
+        case.out = needed(case) as usize;
+    }
+}
+
 /// A number that is mostly that of no contractor.
 fn other_contractor(random: &mut Random) -> u32 {
     let contractor = family::some_contractor(random);
@@ -207,13 +232,13 @@ fn other_right(right: u32, random: &mut Random) -> u32 {
     }
 }
 
-/// The length of an output that is too short.
+/// The length of an output that is too short. None is for a queue of no grants.
 fn shorter_output(case: &Case, random: &mut Random) -> usize {
     let needed = needed(case).min(400) as usize;
     match random.below(4) {
         0 => 0,
         1 => 1,
-        2 => needed - 1,
+        2 => needed.saturating_sub(1),
         _ => random.below(needed),
     }
 }

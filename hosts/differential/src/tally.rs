@@ -1,10 +1,11 @@
-//! Counts cases by call and answer, and prints them as a table.
+//! Counts cases by call and answer, and the grants in queues by their byte, and prints them as a
+//! table.
 
 use std::collections::BTreeMap;
 use std::fmt;
 
 use crate::call::Call;
-use crate::expect::Expected;
+use crate::expect::{Expected, SEEN_IN_A_GRANT};
 
 /// The answers that have a column. 0 stands for every answer that is no refusal.
 const COLUMNS: [u32; 16] = [0, 1, 2, 3, 4, 5, 6, 7, 8, 9, 10, 20, 21, 22, 23, 24];
@@ -12,13 +13,60 @@ const COLUMNS: [u32; 16] = [0, 1, 2, 3, 4, 5, 6, 7, 8, 9, 10, 20, 21, 22, 23, 24
 /// The answers from which on a grant opens, or a holder walked.
 const DONE: u32 = 1000;
 
-/// Numbers of cases.
+/// A line of the table: a call, or a grant in a queue that is not refused as a whole, with its byte
+/// as the answer.
+#[derive(Clone, Copy, Debug, PartialEq, Eq, PartialOrd, Ord)]
+pub enum Line {
+    Of(Call),
+    Queued,
+}
+
+impl Line {
+    /// All lines, in their order.
+    fn all() -> Vec<Line> {
+        let line = |call| match call {
+            Call::CheckQueue => vec![Line::Of(call), Line::Queued],
+            _ => vec![Line::Of(call)],
+        };
+        Call::ALL.into_iter().flat_map(line).collect()
+    }
+
+    fn name(self) -> &'static str {
+        match self {
+            Line::Of(call) => call.name(),
+            Line::Queued => "grant in a queue",
+        }
+    }
+
+    /// The reasons that can be the answer, in their order.
+    fn reasons(self) -> Vec<u32> {
+        match self {
+            Line::Of(call) => call.reasons().to_vec(),
+            Line::Queued => SEEN_IN_A_GRANT.to_vec(),
+        }
+    }
+
+    /// The reasons that can hold together, the one that is given first. In a queue they are those
+    /// of a single check, as far as they are seen in the grant.
+    pub fn pairs(self) -> Vec<(u32, u32)> {
+        let seen = |reason: &u32| SEEN_IN_A_GRANT.contains(reason);
+        match self {
+            Line::Of(call) => call.pairs(),
+            Line::Queued => {
+                let pairs = Call::Check.pairs().into_iter();
+                pairs.filter(|(a, b)| seen(a) && seen(b)).collect()
+            }
+        }
+    }
+}
+
+/// Numbers of cases, and of grants in queues.
 #[derive(Clone, Debug, Default, PartialEq, Eq)]
 pub struct Tally {
-    /// By the call's place in `Call::ALL` and the answer.
-    answers: BTreeMap<(usize, u32), u64>,
-    /// By the call's place, the reason that is given, and another one that holds too.
-    pairs: BTreeMap<(usize, u32, u32), u64>,
+    /// By the line and the answer.
+    answers: BTreeMap<(Line, u32), u64>,
+    /// By the line, the reason that is given, and another one that holds too.
+    pairs: BTreeMap<(Line, u32, u32), u64>,
     /// Cases on which the independent program as a whole was asked too.
     pub second_opinions: u64,
 }
@@ -30,9 +78,17 @@ impl Tally {
             DONE.. => 0,
             answer => answer,
         };
-        *self.answers.entry((call.place(), answer)).or_default() += 1;
-        for (first, other) in pairs_of(&expected.reasons) {
-            *self.pairs.entry((call.place(), first, other)).or_default() += 1;
+        self.count_line(Line::Of(call), answer, &expected.reasons);
+        for reasons in &expected.grants {
+            let byte = reasons.first().copied().unwrap_or(0);
+            self.count_line(Line::Queued, byte, reasons);
+        }
+    }
+
+    fn count_line(&mut self, line: Line, answer: u32, reasons: &[u32]) {
+        *self.answers.entry((line, answer)).or_default() += 1;
+        for (first, other) in pairs_of(reasons) {
+            *self.pairs.entry((line, first, other)).or_default() += 1;
         }
     }
 
@@ -47,42 +103,42 @@ impl Tally {
         self.second_opinions += other.second_opinions;
     }
 
-    /// The cases with a call and an answer.
-    pub fn answered(&self, call: Call, answer: u32) -> u64 {
-        *self.answers.get(&(call.place(), answer)).unwrap_or(&0)
+    /// How often a line has an answer.
+    pub fn answered(&self, line: Line, answer: u32) -> u64 {
+        *self.answers.get(&(line, answer)).unwrap_or(&0)
     }
 
-    /// The cases with a call in which one reason is given and another one holds too.
-    pub fn together(&self, call: Call, first: u32, other: u32) -> u64 {
-        let key = (call.place(), first, other);
-        *self.pairs.get(&key).unwrap_or(&0)
+    /// How often one reason is given in a line and another one holds too.
+    pub fn together(&self, line: Line, first: u32, other: u32) -> u64 {
+        *self.pairs.get(&(line, first, other)).unwrap_or(&0)
     }
 
-    /// The cases of a call.
-    fn of(&self, call: Call) -> u64 {
+    /// The cases of a call, or the grants in queues.
+    fn of(&self, line: Line) -> u64 {
         COLUMNS
             .iter()
-            .map(|&answer| self.answered(call, answer))
+            .map(|&answer| self.answered(line, answer))
             .sum()
     }
 
     /// All cases.
     pub fn total(&self) -> u64 {
-        self.answers.values().sum()
+        Call::ALL.iter().map(|&call| self.of(Line::Of(call))).sum()
     }
 
-    /// What can occur and did not: answers of calls, and reasons that hold together.
+    /// What can occur and did not: answers of calls, bytes of grants in queues, and reasons that
+    /// hold together.
     pub fn missing(&self) -> Vec<String> {
         let mut missing = Vec::new();
-        for call in Call::ALL {
-            for &answer in [0].iter().chain(call.reasons()) {
-                if self.answered(call, answer) == 0 {
-                    missing.push(format!("{} with answer {answer}", call.name()));
+        for line in Line::all() {
+            let name = line.name();
+            for answer in [vec![0], line.reasons()].concat() {
+                if self.answered(line, answer) == 0 {
+                    missing.push(format!("{name} with answer {answer}"));
                 }
             }
-            for (first, other) in call.pairs() {
-                if self.together(call, first, other) == 0 {
-                    let name = call.name();
+            for (first, other) in line.pairs() {
+                if self.together(line, first, other) == 0 {
                     missing.push(format!("{name} with reasons {first} and {other} together"));
                 }
             }
@@ -90,37 +146,38 @@ impl Tally {
         missing
     }
 
-    /// The pairs of reasons that held together and are not among those of their call. There are
+    /// The pairs of reasons that held together and are not among those of their line. There are
     /// none, or `Call::pairs` is wrong.
-    pub fn unlisted(&self) -> Vec<(Call, u32, u32)> {
-        let seen = self.pairs.keys();
-        let seen = seen.map(|&(place, first, other)| (Call::ALL[place], first, other));
-        seen.filter(|&(call, first, other)| !call.pairs().contains(&(first, other)))
+    pub fn unlisted(&self) -> Vec<(Line, u32, u32)> {
+        let seen = self.pairs.keys().copied();
+        seen.filter(|&(line, first, other)| !line.pairs().contains(&(first, other)))
             .collect()
     }
 
-    /// How many of the pairs of reasons occurred that can hold together, and how many there are.
-    fn pairs_seen(&self) -> (usize, usize) {
-        let all = Call::ALL.iter().flat_map(|&call| {
-            let pairs = call.pairs().into_iter();
-            pairs.map(move |(first, other)| self.together(call, first, other))
+    /// How many of the pairs of reasons occurred that can hold together in these lines, and how many
+    /// there are.
+    fn pairs_seen(&self, lines: &[Line]) -> (usize, usize) {
+        let all = lines.iter().flat_map(|&line| {
+            let pairs = line.pairs().into_iter();
+            pairs.map(move |(first, other)| self.together(line, first, other))
         });
         let all: Vec<u64> = all.collect();
         (all.iter().filter(|&&cases| cases > 0).count(), all.len())
     }
 
     /// A line of the table.
-    fn row(&self, call: Call) -> String {
-        let mut row = format!("{:<20}", call.name());
+    fn row(&self, line: Line) -> String {
+        let mut row = format!("{:<20}", line.name());
+        let reasons = line.reasons();
         for answer in COLUMNS {
-            let possible = answer == 0 || call.reasons().contains(&answer);
+            let possible = answer == 0 || reasons.contains(&answer);
             let text = match possible {
-                true => self.answered(call, answer).to_string(),
+                true => self.answered(line, answer).to_string(),
                 false => "-".to_string(),
             };
             row.push_str(&format!("{text:>9}"));
         }
-        format!("{row}{:>11}", self.of(call))
+        format!("{row}{:>11}", self.of(line))
     }
 }
 
@@ -131,11 +188,13 @@ impl fmt::Display for Tally {
             write!(out, "{answer:>9}")?;
         }
         writeln!(out, "{:>11}", "cases")?;
-        for call in Call::ALL {
-            writeln!(out, "{}", self.row(call))?;
+        for line in Line::all() {
+            writeln!(out, "{}", self.row(line))?;
         }
-        let (seen, all) = self.pairs_seen();
+        let (seen, all) = self.pairs_seen(&Call::ALL.map(Line::Of));
         writeln!(out, "pairs of reasons together: {seen} of {all}")?;
+        let (seen, all) = self.pairs_seen(&[Line::Queued]);
+        writeln!(out, "the same in a grant in a queue: {seen} of {all}")?;
         writeln!(out, "second opinions: {}", self.second_opinions)?;
         write!(out, "total: {} cases", self.total())
     }

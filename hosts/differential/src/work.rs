@@ -21,7 +21,8 @@ pub const FAMILY: u64 = 128;
 /// The cases that are kept to be printed, if they differ.
 pub const KEPT: usize = 10;
 
-/// One case in so many is put to the independent program as a whole too, which is slow.
+/// One case in so many is put to the independent program as a whole too, which is slow; fewer of those
+/// with which it is slower, and all of those with which it is not.
 const OPINION_STEP: u64 = 16;
 
 /// What is to be done.
@@ -133,13 +134,19 @@ fn work_family(plan: &Plan, family: u64, library: &Library<'_>, outcome: &mut Ou
     for (number, (case, expected)) in (first..).zip(family_cases(plan.seed, family, cases)) {
         outcome.tally.count(case.call, &expected);
         let mut found = differences(&case, &expected.effect, library, &mut random);
-        if number % OPINION_STEP == 0 || opinion::is_cheap(case.call) {
+        if is_due(number, opinion::cost(&case, &expected.effect)) {
             found.extend(compare_opinions(&case, &expected, &mut outcome.tally));
         }
         if !found.is_empty() {
             outcome.note(number, case, found);
         }
     }
+}
+
+/// Whether the independent program as a whole is asked too about the case of a number, if that costs
+/// so much.
+fn is_due(number: u64, cost: u64) -> bool {
+    cost == 0 || number % (OPINION_STEP * cost) == 0
 }
 
 /// Compares what is expected with what the independent program as a whole does.

@@ -7,6 +7,7 @@ use gordzila_differential::opinion::second;
 use gordzila_differential::oracle::{Oracle, Way};
 use gordzila_differential::order::read;
 use gordzila_differential::rolls::set_count;
+use gordzila_differential::tally::Line;
 
 /// Bytes from hex.
 fn hex(text: &str) -> Vec<u8> {
@@ -91,7 +92,7 @@ fn the_worked_examples_of_the_cipher() {
 /// A case of a call in which no reason holds.
 fn right(call: Call) -> Case {
     let mut case = match call {
-        Call::Issue | Call::Check | Call::Withdraw => roll_case(call, 7, 1),
+        Call::Issue | Call::Check | Call::CheckQueue | Call::Withdraw => roll_case(call, 7, 1),
         Call::Enter => roll_case(call, 7, 0),
         _ if HOLDING.contains(&call) => holder_case(call, 12, 0, &[1; 12]),
         _ => block_case(call, 12, 10),
@@ -103,16 +104,28 @@ fn right(call: Call) -> Case {
         Call::HolderWalk => case.stage = 7,
         Call::Run => case.list = vec![1; 132],
         Call::Check => case.block = effect(&right(Call::Issue)).written,
+        Call::CheckQueue => {
+            case.block = effect(&right(Call::Issue)).written.repeat(2);
+            case.out = 2;
+        }
         _ => {}
     }
     case
 }
 
-/// The grant of a right check, but with any byte as its right.
-fn grant_with(right: u8) -> Vec<u8> {
-    let plain = [0, 7, 0, 1, 0, 0, 1, 44, right, 0x47, 0x52, 0x44];
+/// A grant for size block 300 and any contractor below 256, with any count below 256 and any byte as
+/// its right.
+fn grant_of(contractor: u8, count: u8, right: u8) -> Vec<u8> {
+    let plain = [
+        0, contractor, 0, count, 0, 0, 1, 44, right, 0x47, 0x52, 0x44,
+    ];
     let key: Vec<u8> = (0..12).collect();
     Oracle::new().block(Way::Encipher, &key, 10, &plain)
+}
+
+/// The grant of a right check, but with any byte as its right.
+fn grant_with(right: u8) -> Vec<u8> {
+    grant_of(7, 1, right)
 }
 
 /// Makes a reason hold of a right case, and with it as few others as can be.
@@ -177,6 +190,54 @@ fn of_two_reasons_the_one_that_comes_first_is_given() {
             assert_eq!(answer(&case), first, "{case}");
         }
     }
+}
+
+/// How many pairs there are, reckoned by hand. For each call the reasons make so many pairs, less
+/// those of which one has no meaning where the other holds.
+#[test]
+fn so_many_pairs_of_reasons_can_hold_together() {
+    let table = [
+        (Call::Encipher, 6 - 1),
+        (Call::Decipher, 6 - 1),
+        (Call::PrepareEnciphering, 3 - 1),
+        (Call::PrepareDeciphering, 3 - 1),
+        (Call::Run, 3),
+        (Call::Issue, 21 - 3),
+        (Call::Check, 36 - 21),
+        (Call::CheckQueue, 10 - 1),
+        (Call::Enter, 6 - 5),
+        (Call::Withdraw, 3 - 2),
+        (Call::Stage, 3 - 1),
+        (Call::Subkey, 3 - 1),
+        (Call::HolderMake, 1),
+        (Call::HolderForward, 0),
+        (Call::HolderBack, 0),
+        (Call::HolderWalk, 1),
+        (Call::HolderSubkey, 1),
+    ];
+    for (call, pairs) in table {
+        assert_eq!(call.pairs().len(), pairs, "{}", call.name());
+    }
+    let all: usize = Call::ALL.iter().map(|call| call.pairs().len()).sum();
+    assert_eq!(all, 68);
+}
+
+#[test]
+fn these_pairs_of_reasons_can_hold_of_a_queue_and_in_a_grant_of_it() {
+    let queue = [
+        (1, 3),
+        (1, 4),
+        (1, 7),
+        (2, 3),
+        (2, 4),
+        (2, 7),
+        (3, 4),
+        (3, 7),
+        (4, 7),
+    ];
+    assert_eq!(Call::CheckQueue.pairs(), queue);
+    let in_a_grant = [(9, 10), (9, 20), (9, 23), (10, 20), (10, 23), (20, 23)];
+    assert_eq!(Line::Queued.pairs(), in_a_grant);
 }
 
 #[test]
@@ -550,4 +611,169 @@ fn the_first_grant_of_the_independent_log() {
     assert_eq!(answer(&case), 20);
     set_count(&mut case.roll, 125, 3);
     assert_eq!(answer(&case), 23);
+}
+
+/// A queue of so many grants of contractor 7 that open, asked for overwriting, with so many bytes for
+/// the answers.
+fn queue_case(grants: usize, out: usize) -> Case {
+    let mut case = right(Call::CheckQueue);
+    case.block = grant_with(OVERWRITING as u8).repeat(grants);
+    case.out = out;
+    case
+}
+
+/// A contractor, a count and a right in a grant, and its byte if reading is asked for, and if
+/// overwriting is. On the roll contractor 7 has count 1, 8 has 2, 9 has 3, and others have 0.
+const QUEUED: [(u8, u8, u8, u8, u8); 12] = [
+    (7, 1, 1, 0, 10),
+    (7, 1, 2, 0, 0),
+    (7, 1, 3, 8, 8),
+    (8, 2, 2, 20, 20),
+    (8, 2, 1, 20, 10),
+    (9, 1, 2, 23, 23),
+    (9, 3, 2, 0, 0),
+    (9, 3, 1, 0, 10),
+    (0, 1, 1, 8, 8),
+    (201, 1, 1, 8, 8),
+    (200, 0, 2, 20, 20),
+    (7, 3, 1, 23, 10),
+];
+
+/// The queue of these grants, asked for a right, and the bytes that it has to get.
+fn mixed_queue(asked: u32) -> (Case, Vec<u8>) {
+    let mut case = queue_case(0, QUEUED.len() + 1);
+    let grants = QUEUED.map(|(contractor, count, right, ..)| grant_of(contractor, count, right));
+    case.block = grants.concat();
+    case.right = asked;
+    set_count(&mut case.roll, 8, 2);
+    set_count(&mut case.roll, 9, 3);
+    let bytes = QUEUED.map(|(.., reading, overwriting)| match asked {
+        READING => reading,
+        _ => overwriting,
+    });
+    (case, bytes.to_vec())
+}
+
+#[test]
+fn a_queue_by_hand() {
+    for asked in [READING, OVERWRITING] {
+        let (mut case, bytes) = mixed_queue(asked);
+        assert_eq!(effect(&case).answer, 0);
+        assert_eq!(effect(&case).written, bytes);
+        // In the opposite order, and for another size block, where only 8 comes before 9.
+        case.block = case.block.rchunks(12).collect::<Vec<_>>().concat();
+        let turned: Vec<u8> = bytes.iter().rev().copied().collect();
+        assert_eq!(effect(&case).written, turned);
+        case.size_block += 1;
+        let elsewhere = turned.iter().map(|&byte| if byte == 8 { 8 } else { 9 });
+        assert_eq!(effect(&case).written, elsewhere.collect::<Vec<_>>());
+    }
+}
+
+#[test]
+fn each_byte_of_a_queue_is_what_the_single_check_says() {
+    for asked in [READING, OVERWRITING] {
+        let (queue, bytes) = mixed_queue(asked);
+        let mut case = queue.clone();
+        case.call = Call::Check;
+        for (grant, byte) in queue.block.chunks(12).zip(bytes) {
+            case.block = grant.to_vec();
+            match answer(&case) {
+                1000.. => assert_eq!(byte, 0, "{case}"),
+                refusal => assert_eq!(u32::from(byte), refusal, "{case}"),
+            }
+        }
+    }
+}
+
+/// All reasons of the grants in a queue, and not only those that are given.
+#[test]
+fn the_reasons_of_each_grant_in_a_queue() {
+    let (mut case, _) = mixed_queue(OVERWRITING);
+    case.size_block += 1;
+    let found = expected(&case, &mut Oracle::new()).grants;
+    assert_eq!(found[0], [9, 10]);
+    assert_eq!(found[2], [8]);
+    assert_eq!(found[4], [9, 10, 20]);
+    assert_eq!(found[11], [9, 10, 23]);
+    case.size_block -= 1;
+    set_count(&mut case.roll, 7, 2);
+    let found = expected(&case, &mut Oracle::new()).grants;
+    assert_eq!(found[0], [10, 20, 23]);
+    assert_eq!(found[1], [20, 23]);
+    assert_eq!(found[6], []);
+}
+
+#[test]
+fn a_queue_has_0_to_64_whole_grants() {
+    let oracle = &mut Oracle::new();
+    for length in (0..=800).chain([1024, 3072, 3084, 65_548]) {
+        let mut case = queue_case(6000, 6000);
+        case.block.truncate(length);
+        let right = length % 12 == 0 && length <= 768;
+        let effect = expected(&case, oracle).effect;
+        assert_eq!(effect.answer, if right { 0 } else { 3 }, "{length}");
+        let grants = if right { length / 12 } else { 0 };
+        assert_eq!(effect.written, vec![0; grants], "{length}");
+    }
+}
+
+/// So many grants, so many bytes for the answers, and all reasons that hold.
+#[test]
+fn a_queue_needs_a_byte_for_each_grant() {
+    let table: [(usize, usize, &[u32]); 14] = [
+        (0, 0, &[]),
+        (0, 1, &[]),
+        (1, 0, &[4]),
+        (1, 1, &[]),
+        (2, 1, &[4]),
+        (2, 2, &[]),
+        (2, 24, &[]),
+        (64, 0, &[4]),
+        (64, 63, &[4]),
+        (64, 64, &[]),
+        (64, 320, &[]),
+        (65, 64, &[3, 4]),
+        (65, 65, &[3]),
+        (65, 780, &[3]),
+    ];
+    for (grants, out, reasons) in table {
+        let case = queue_case(grants, out);
+        let found = expected(&case, &mut Oracle::new()).reasons;
+        assert_eq!(found, reasons, "{grants} and {out}");
+        let effect = effect(&case);
+        assert_eq!(effect.answer, reasons.first().copied().unwrap_or(0));
+        let written = if reasons.is_empty() { grants } else { 0 };
+        assert_eq!(effect.written, vec![0; written], "{grants} and {out}");
+    }
+}
+
+/// What is wrong with a queue of no grants is refused all the same.
+#[test]
+fn a_queue_of_no_grants_is_tried_too() {
+    for (reason, out) in [(1, 0), (2, 0), (3, 0), (7, 0), (7, 1)] {
+        let mut case = queue_case(0, out);
+        assert_eq!(answer(&case), 0);
+        spoil(&mut case, reason);
+        assert_eq!(answer(&case), reason, "{case}");
+    }
+    for asked in [0, 3, 255, 256, 257, 258, 65_538, u32::MAX] {
+        for grants in [0, 1, 64] {
+            let mut case = queue_case(grants, 64);
+            case.right = asked;
+            assert_eq!(answer(&case), 7, "{case}");
+        }
+    }
+}
+
+#[test]
+fn a_roll_of_another_length_is_refused_with_3_before_4() {
+    for length in [0, 1, 399, 401, 600] {
+        let mut case = queue_case(2, 1);
+        case.roll.resize(length, 0);
+        case.right = 3;
+        let found = expected(&case, &mut Oracle::new()).reasons;
+        assert_eq!(found, [3, 4, 7], "{length}");
+        assert_eq!(answer(&case), 3, "{length}");
+    }
 }

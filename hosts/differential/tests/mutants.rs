@@ -13,6 +13,9 @@ use gordzila_differential::lend::{Bytes, Lent, Library};
 use gordzila_differential::random::Random;
 use gordzila_differential::work::{family_cases, FAMILY};
 
+#[path = "mutants/queue.rs"]
+mod queue;
+
 const SEED: u64 = 7;
 const FAMILIES: u64 = 200;
 
@@ -79,14 +82,22 @@ fn input(argument: Argument, lent: &Lent) -> Option<Bytes> {
         Argument::Roll => Some(lent.roll),
         Argument::Holder => Some(lent.holder),
         Argument::List => Some(lent.list),
-        Argument::Block | Argument::Grant => Some(lent.block),
+        Argument::Block | Argument::Grant | Argument::Grants => Some(lent.block),
         _ => None,
     }
 }
 
 /// The calls with each argument of theirs that is an input of bytes.
 fn inputs() -> impl Iterator<Item = (Call, Argument)> {
-    let bytes = [A::Key, A::Roll, A::Holder, A::List, A::Block, A::Grant];
+    let bytes = [
+        A::Key,
+        A::Roll,
+        A::Holder,
+        A::List,
+        A::Block,
+        A::Grant,
+        A::Grants,
+    ];
     let all = Call::ALL.into_iter().flat_map(|call| {
         let arguments = call.arguments().iter();
         arguments.map(move |&argument| (call, argument))
@@ -98,6 +109,7 @@ fn inputs() -> impl Iterator<Item = (Call, Argument)> {
 fn written(call: Call, lent: &Lent) -> usize {
     let mut case = Case::new(call);
     case.rounds = lent.rounds;
+    case.block = vec![0; lent.block.length];
     needed(&case) as usize
 }
 
@@ -137,11 +149,12 @@ fn a_wrong_byte_of_an_output_is_found_at_every_place() {
         let turn = AtomicUsize::new(0);
         always_found(call, |lent| {
             let answer = archive(call, lent);
-            if answer == 0 {
+            let is_wrong = answer == 0 && written(call, lent) > 0;
+            if is_wrong {
                 let place = turn.fetch_add(1, Ordering::Relaxed) % written(call, lent);
                 poke(lent.out, place as isize);
             }
-            (answer, answer == 0)
+            (answer, is_wrong)
         });
         assert!(turn.into_inner() > 288);
     }
@@ -158,7 +171,7 @@ fn a_byte_that_is_not_written_is_found() {
             if let (Some(before), 0) = (before, answer) {
                 unsafe { *place = before };
             }
-            (answer, answer == 0)
+            (answer, answer == 0 && before.is_some())
         });
     }
 }
@@ -498,6 +511,7 @@ fn lengths_cut_to_fewer_bits_are_found() {
         taken_for_something_else(Argument::List, |lent| lent.list.length &= mask);
         taken_for_something_else(Argument::Block, |lent| lent.block.length &= mask);
         taken_for_something_else(Argument::Grant, |lent| lent.block.length &= mask);
+        taken_for_something_else(Argument::Grants, |lent| lent.block.length &= mask);
     }
 }
 
@@ -537,7 +551,7 @@ fn limits_that_are_off_by_one_are_found() {
 
 #[test]
 fn counts_cut_to_a_byte_are_found() {
-    for call in [Call::Issue, Call::Check] {
+    for call in [Call::Issue, Call::Check, Call::CheckQueue] {
         let library = |_, lent: &Lent| {
             let mut cut = copied(lent.roll);
             cut.chunks_mut(2).for_each(|count| count[0] = 0);

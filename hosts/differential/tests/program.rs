@@ -33,6 +33,12 @@ fn the_program_finds_no_difference() {
         text.ends_with("total: 40000 cases\n0 differences\n"),
         "{text}"
     );
+    for pairs in [
+        "\npairs of reasons together: 68 of 68\n",
+        "\nthe same in a grant in a queue: 6 of 6\n",
+    ] {
+        assert!(text.contains(pairs), "{text}");
+    }
 }
 
 #[test]
@@ -47,10 +53,17 @@ fn the_program_fails_if_something_never_occurs() {
     let output = program(&["5"]);
     let text = String::from_utf8(output.stdout).expect("the program prints text");
     assert_eq!(output.status.code(), Some(1));
-    assert!(
-        text.contains("never occurred: check with answer 23\n"),
-        "{text}"
-    );
+    for missing in [
+        "check with answer 23",
+        "check_queue with reasons 3 and 4 together",
+        "grant in a queue with answer 10",
+        "grant in a queue with reasons 20 and 23 together",
+    ] {
+        assert!(
+            text.contains(&format!("never occurred: {missing}\n")),
+            "{text}"
+        );
+    }
     assert!(text.ends_with("\n0 differences\n"), "{text}");
 }
 
@@ -104,6 +117,23 @@ fn a_difference_of_a_holder_is_printed_in_full() {
     assert!(text.contains(" stage="), "{text}");
     assert!(text.contains("\n    holder is 26:"), "{text}");
     assert!(text.contains(", but has to be 26:"), "{text}");
+}
+
+#[test]
+fn a_difference_of_a_queue_is_printed_in_full() {
+    let library = |call: Call, lent: &Lent| {
+        let answer = archive(call, lent);
+        if call == Call::CheckQueue && answer == 0 && lent.out.length > 0 {
+            unsafe { *lent.out.start ^= 0x40 };
+        }
+        answer
+    };
+    let outcome = work(&plan(500, 2), &library);
+    let text = outcome.first[0].to_string();
+    assert!(text.contains(": check_queue key="), "{text}");
+    assert!(text.contains(" grants="), "{text}");
+    assert!(text.contains(" out_length="), "{text}");
+    assert!(text.contains("\n    out is "), "{text}");
 }
 
 #[test]

@@ -10,7 +10,7 @@ use gordzila_differential::rolls::{count, is_contractor};
 use gordzila_differential::work::{family_cases, FAMILY};
 
 const SEED: u64 = 11;
-const FAMILIES: u64 = 400;
+const FAMILIES: u64 = 600;
 
 /// The cases among which all is looked for. They are drawn once, by the test that comes first.
 fn cases() -> &'static [(Case, Expected)] {
@@ -43,19 +43,26 @@ fn occur_among<T: PartialEq + std::fmt::Debug>(
     }
 }
 
-const KEYED: [Call; 9] = [
+const KEYED: [Call; 10] = [
     Call::Encipher,
     Call::Decipher,
     Call::PrepareEnciphering,
     Call::PrepareDeciphering,
     Call::Issue,
+    Call::CheckQueue,
     Call::Check,
     Call::Stage,
     Call::Subkey,
     Call::HolderMake,
 ];
 
-const ROLL: [Call; 4] = [Call::Issue, Call::Check, Call::Enter, Call::Withdraw];
+const ROLL: [Call; 5] = [
+    Call::Issue,
+    Call::Check,
+    Call::CheckQueue,
+    Call::Enter,
+    Call::Withdraw,
+];
 
 const HOLDING: [Call; 4] = [
     Call::HolderForward,
@@ -84,7 +91,7 @@ fn lengths_occur() {
 #[test]
 fn numbers_occur() {
     let rounds: Vec<u32> = (8..=25).chain([0, 1, 266, u32::MAX]).collect();
-    occur(&KEYED[..6], &rounds, |case| case.rounds);
+    occur(&KEYED[..7], &rounds, |case| case.rounds);
     let contractors = [0, 1, 200, 201, u32::MAX];
     let taking = [Call::Issue, Call::Enter, Call::Withdraw];
     occur(&taking, &contractors, |case| case.contractor);
@@ -92,7 +99,7 @@ fn numbers_occur() {
         |case: &Case| case.contractor >> 16 == 1 && is_contractor(case.contractor & 0xffff);
     occur(&taking, &[true], low_half);
     let rights = [0, 1, 2, 3, 257, u32::MAX];
-    let taking = [Call::Issue, Call::Check];
+    let taking = [Call::Issue, Call::Check, Call::CheckQueue];
     occur(&taking, &rights, |case| case.right);
     occur(&taking, &[0, 1, u32::MAX], |case| case.size_block);
     let stages: Vec<u32> = (0..=25).chain([u32::MAX]).collect();
@@ -111,7 +118,7 @@ fn outputs_of_all_lengths_occur() {
         Call::HolderMake,
         Call::HolderSubkey,
     ];
-    for call in [&KEYED[..5], &others].concat() {
+    for call in [&KEYED[..6], &others].concat() {
         let rest = |case: &Case| case.out as i64 - needed(case) as i64;
         occur(&[call], &[-1, 0, 1], rest);
         occur(&[call], &[true], |case| rest(case) > 1);
@@ -286,4 +293,105 @@ fn walks_past_the_end_of_whole_holders_occur() {
     occur(&[Call::HolderWalk], &high, |case| {
         is_whole(&case.holder).then_some(case.stage & !31)
     });
+}
+
+/// The queues that are not refused as a whole, with the bytes that they get.
+fn queues() -> impl Iterator<Item = (&'static Case, &'static [u8])> {
+    let queues = cases()
+        .iter()
+        .filter(|pair| pair.0.call == Call::CheckQueue);
+    let answered = queues.filter(|pair| pair.1.effect.answer == 0);
+    answered.map(|(case, expected)| (case, expected.effect.written.as_slice()))
+}
+
+#[test]
+fn queues_of_every_length_occur() {
+    let right: Vec<usize> = (0..=64).map(|grants| 12 * grants).collect();
+    occur(&[Call::CheckQueue], &right, |case| case.block.len());
+    let wrong = [1, 6, 11, 13, 23, 25, 767, 769, 775, 780, 792, 1024, 3072];
+    occur(&[Call::CheckQueue], &wrong, |case| case.block.len());
+    occur(&[Call::CheckQueue], &[3084, 65_548], |case| {
+        case.block.len()
+    });
+    for often in [0, 1, 2, 63, 64, 65] {
+        let all = cases().iter().map(|pair| &pair.0);
+        let all = all.filter(|case| case.call == Call::CheckQueue);
+        let found = all.filter(|case| case.block.len() == 12 * often).count();
+        assert!(found > 150, "{often} grants occur {found} times");
+    }
+}
+
+/// A queue of 65 grants is refused with and without room for its answers, and so is one of a wrong
+/// length.
+#[test]
+fn queues_that_are_too_long_occur_with_every_output() {
+    let long = |case: &Case| {
+        let grants = case.block.len() / 12;
+        (grants == 65).then(|| case.out.cmp(&grants))
+    };
+    let outputs = [-1, 0, 1].map(|rest: i32| Some(rest.cmp(&0)));
+    occur(&[Call::CheckQueue], &outputs, long);
+    occur(&[Call::CheckQueue], &[true], |case| {
+        case.block.len() == 780 && case.out == 64
+    });
+    let part = |case: &Case| case.block.len() % 12 != 0 && case.out > case.block.len() / 12;
+    occur(&[Call::CheckQueue], &[true], part);
+}
+
+#[test]
+fn every_byte_occurs_at_either_end_of_queues() {
+    for grants in [1, 2, 63, 64] {
+        for byte in [0, 8, 9, 10, 20, 23] {
+            let of_length = |written: &[u8]| written.len() == grants;
+            let first = |written: &[u8]| of_length(written) && written[0] == byte;
+            let last = |written: &[u8]| of_length(written) && written[grants - 1] == byte;
+            assert!(queues().any(|queue| first(queue.1)), "{byte} of {grants}");
+            assert!(queues().any(|queue| last(queue.1)), "{byte} of {grants}");
+        }
+    }
+}
+
+#[test]
+fn queues_of_one_byte_and_of_all_bytes_occur() {
+    for byte in [0, 8, 9, 10, 20, 23] {
+        let same = |written: &[u8]| written.len() > 2 && written.iter().all(|&own| own == byte);
+        assert!(queues().any(|queue| same(queue.1)), "{byte}");
+        // All but the first, and all but the last.
+        let but = |rest: &[u8], other: u8| same(rest) && other != byte;
+        let first = |queue: (_, &[u8])| queue.1.len() > 2 && but(&queue.1[1..], queue.1[0]);
+        let last = |queue: (_, &[u8])| match queue.1.split_last() {
+            Some((&last, rest)) => but(rest, last),
+            None => false,
+        };
+        assert!(queues().any(first), "{byte} but at first");
+        assert!(queues().any(last), "{byte} but at last");
+    }
+    let all = |written: &[u8]| [0, 8, 9, 20, 23].iter().all(|byte| written.contains(byte));
+    assert!(queues().filter(|queue| all(queue.1)).count() > 10);
+    let asked = |right, queue: (&Case, &[u8])| queue.0.right == right && queue.1.contains(&10);
+    assert!(queues().filter(|&queue| asked(2, queue)).count() > 10);
+    assert!(!queues().any(|queue| asked(1, queue)));
+}
+
+/// Grants that open for two contractors and for both rights, and the same grant twice.
+#[test]
+fn queues_of_several_contractors_occur() {
+    let opened = |(case, written): (&'static Case, &'static [u8])| {
+        let grants = case.block.chunks(12).zip(written);
+        let opened = grants.filter(|pair| *pair.1 == 0);
+        let plain = opened.map(|pair| {
+            let grant = pair.0.try_into().expect("a grant has 12 bytes");
+            gordzila::decipher(&case.key, case.rounds, grant).expect("the key is right")
+        });
+        plain.collect::<Vec<[u8; 12]>>()
+    };
+    let opened: Vec<_> = queues().map(opened).collect();
+    let differ = |place: usize| {
+        let mixed = |plain: &&Vec<[u8; 12]>| plain.iter().any(|one| one[place] != plain[0][place]);
+        opened.iter().filter(mixed).count()
+    };
+    assert!(differ(1) > 100, "{} with two contractors", differ(1));
+    assert!(differ(8) > 100, "{} with both rights", differ(8));
+    let twice = |plain: &&Vec<[u8; 12]>| plain.iter().skip(1).any(|one| *one == plain[0]);
+    assert!(opened.iter().filter(twice).count() > 100);
 }

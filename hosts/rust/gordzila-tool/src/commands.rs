@@ -2,7 +2,7 @@
 
 use crate::failure::{Answer, Failure};
 use crate::options::{
-    Options, BLOCK, CONTRACTOR, FROM, GRANT, KEY, KEY_FILE, RIGHT, ROLL, ROUNDS, STAGE, TO,
+    Options, BLOCK, CONTRACTOR, FROM, GRANT, GRANTS, KEY, KEY_FILE, RIGHT, ROLL, ROUNDS, STAGE, TO,
 };
 use crate::printing::Done::{self, Changed, Told};
 use crate::{help, hex, rolls};
@@ -24,6 +24,7 @@ pub fn run(name: &OsStr, words: &[OsString]) -> Result<Done, Failure> {
     match name {
         "issue" => issue(words).map(Told),
         "check" => check(words).map(Told),
+        "queue" => queue(words).map(Told),
         "encipher" => cipher(words, raw::encipher).map(Told),
         "decipher" => cipher(words, raw::decipher).map(Told),
         "stage" => stage(words).map(Told),
@@ -76,6 +77,28 @@ fn check(words: &[OsString]) -> Answer {
     )?;
     let (contractor, right) = (opened.contractor, opened.right);
     Ok(format!("opens: contractor {contractor}, {right}\n"))
+}
+
+/// The words are read before the grants, which may come from someone who types them.
+fn queue(words: &[OsString]) -> Answer {
+    let allowed = [KEY, KEY_FILE, ROUNDS, ROLL, GRANTS, BLOCK, RIGHT];
+    let options = Options::parse(words, &allowed)?;
+    let (key, rounds) = (options.key()?, options.number(ROUNDS)?);
+    let (block, right) = (options.number(BLOCK)?, options.right()?);
+    let (roll, grants) = (options.roll()?, options.grants()?);
+    // A byte that the library did not write would open nothing.
+    let mut answers = vec![u8::MAX; grants.len() / BLOCK_BYTES];
+    raw::check_queue(
+        &key,
+        rounds,
+        roll.bytes(),
+        &grants,
+        block,
+        right,
+        &mut answers,
+    )?;
+    let lines = (1..).zip(answers).map(|(n, byte)| verdict_on(n, byte));
+    Ok(lines.collect())
 }
 
 fn cipher(words: &[OsString], call: CipherCall) -> Answer {
@@ -155,7 +178,36 @@ fn lines_of(n: u32, stage: &[u8], subkey: &[u8]) -> String {
     format!("stage {n}: {stage}\nsubkey {n}: {subkey}\n")
 }
 
+/// What a byte of the queue's answers says of a grant. A number that has no words here
+/// refuses too.
+fn verdict_on(n: usize, byte: u8) -> String {
+    match (byte, Reason::from_number(byte.into())) {
+        (0, _) => format!("{n}: opens\n"),
+        (_, Some(reason)) => format!("{n}: refused with {byte}: {reason}\n"),
+        (_, None) => format!("{n}: refused with {byte}\n"),
+    }
+}
+
 fn line_on(roll: &Roll, contractor: u32) -> String {
     let count = roll.count(contractor).unwrap_or_default();
     format!("contractor {contractor}, count {count}\n")
+}
+
+#[cfg(test)]
+mod tests {
+    use super::verdict_on;
+
+    #[test]
+    fn only_a_byte_of_0_opens() {
+        assert_eq!(verdict_on(1, 0), "1: opens\n");
+        assert_eq!(
+            verdict_on(64, 20),
+            "64: refused with 20: contractor not in standing\n"
+        );
+        assert_eq!(verdict_on(2, 255), "2: refused with 255\n");
+        for byte in 1..=u8::MAX {
+            let refused = format!("3: refused with {byte}");
+            assert!(verdict_on(3, byte).starts_with(&refused), "{byte}");
+        }
+    }
 }

@@ -14,7 +14,7 @@ pub enum Failure {
     Refused(Reason),
     /// The words on the command line are wrong.
     Usage(String),
-    /// A file, or standard output, cannot be used.
+    /// A file, standard input or standard output cannot be used.
     Trouble(String),
 }
 

@@ -5,8 +5,8 @@ use crate::failure::{Answer, Failure};
 use std::ffi::OsString;
 
 /// The subcommands.
-pub const NAMES: [&str; 9] = [
-    "issue", "check", "encipher", "decipher", "stage", "walk", "enter", "withdraw", "roll",
+pub const NAMES: [&str; 10] = [
+    "issue", "check", "queue", "encipher", "decipher", "stage", "walk", "enter", "withdraw", "roll",
 ];
 
 /// The help that the words after `help` ask for.
@@ -23,6 +23,7 @@ pub fn of(name: &str) -> String {
     let text = match name {
         "issue" => ISSUE,
         "check" => CHECK,
+        "queue" => QUEUE,
         "encipher" => ENCIPHER,
         "decipher" => DECIPHER,
         "stage" => STAGE,
@@ -41,6 +42,7 @@ usage: gordzila SUBCOMMAND OPTIONS
 
   issue      issue a grant
   check      check a grant
+  queue      check up to 64 grants for one size block
   encipher   encipher one block
   decipher   decipher one block
   stage      show a stage of a key and its subkey
@@ -58,8 +60,9 @@ number, and numbers are decimal.
 A key on the command line is seen by others on the machine: use --key-file.
 
 exit status: 0 done, or the grant opens; 1 refused, with the number and the
-reason on standard error; 2 bad usage, or a file or standard output that cannot
-be used.
+reason on standard error; 2 bad usage, or a file, standard input or standard
+output that cannot be used. With `queue`, 0 says that each grant has its
+verdict, not that one opens.
 ";
 
 const ISSUE: &str = "\
@@ -91,6 +94,30 @@ usage: gordzila check OPTIONS
   --grant HEX       the grant, 12 bytes
   --block N         the number of the size block asked for
   --right R         the right asked for: reading or overwriting, or 1 or 2
+";
+
+const QUEUE: &str = "\
+Checks 0 to 64 grants for one size block and one right, and prints a line with
+a verdict for each, in their order: `1: opens`, or `2: refused with 20:
+contractor not in standing`. The verdicts are those of `check`. A grant for
+overwriting also opens its size block for reading.
+
+usage: gordzila queue OPTIONS
+
+  --key HEX         the maker's key, 12, 18 or 24 bytes
+  --key-file FILE   the same, from a file of hexadecimal digits
+  --rounds N        10 to 11, 14 to 17 or 18 to 23, by the key's length
+  --roll FILE       the roll, 400 bytes
+  --grants FILE     the grants, one a line in hexadecimal digits, as `issue`
+                    prints them; - stands for standard input
+  --block N         the number of the size block asked for
+  --right R         the right asked for: reading or overwriting, or 1 or 2
+
+Blank lines are left out and get no number. Without grants nothing is printed.
+Exit status 0 says that each grant has its verdict, and not that one opens:
+read the lines. Where the whole queue is refused, as more than 64 grants are
+with 3, the status is 1 and there is no verdict. A line that is not the 12
+bytes of a grant, or a text of more than 65,536 bytes, cannot be used: status 2.
 ";
 
 const ENCIPHER: &str = "\

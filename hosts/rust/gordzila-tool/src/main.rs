@@ -6,6 +6,7 @@
 
 mod commands;
 mod failure;
+mod grants;
 mod help;
 mod hex;
 mod lock;

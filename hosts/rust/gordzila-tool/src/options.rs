@@ -1,7 +1,7 @@
 //! The options of a subcommand, and their values.
 
 use crate::failure::Failure;
-use crate::{hex, rolls};
+use crate::{grants, hex, rolls};
 use gordzila::{Right, Roll};
 use std::ffi::{OsStr, OsString};
 use std::fs::File;
@@ -16,6 +16,7 @@ pub const CONTRACTOR: &str = "--contractor";
 pub const BLOCK: &str = "--block";
 pub const RIGHT: &str = "--right";
 pub const GRANT: &str = "--grant";
+pub const GRANTS: &str = "--grants";
 pub const STAGE: &str = "--stage";
 pub const FROM: &str = "--from";
 pub const TO: &str = "--to";
@@ -91,6 +92,11 @@ impl Options {
         rolls::read(self.roll_path()?)
     }
 
+    /// The bytes of the grants in the file that the option names, or on standard input.
+    pub fn grants(&self) -> Result<Vec<u8>, Failure> {
+        grants::read(self.value(GRANTS)?)
+    }
+
     /// The name of the roll's file.
     pub fn roll_path(&self) -> Result<&Path, Failure> {
         self.value(ROLL).map(Path::new)
@@ -152,7 +158,8 @@ fn text_in(path: &Path) -> io::Result<Vec<u8>> {
     Ok(text)
 }
 
-fn trimmed(text: &[u8]) -> &[u8] {
+/// A text without the white space around it.
+pub fn trimmed(text: &[u8]) -> &[u8] {
     let is_mark = |byte: &u8| !byte.is_ascii_whitespace();
     let start = text.iter().position(is_mark).unwrap_or(text.len());
     let end = text

@@ -9,6 +9,9 @@ pub const BLOCK_BYTES: usize = 12;
 /// How many bytes a stage is given as, whatever the key's length.
 pub const STAGE_BYTES: usize = 24;
 
+/// How many grants [`check_queue`] takes at most.
+pub const QUEUE_MOST_GRANTS: usize = 64;
+
 /// How many bytes the longest subkey list has: 24 subkeys.
 const LONGEST_LIST: usize = 24 * BLOCK_BYTES;
 
@@ -133,6 +136,67 @@ pub fn check(
     raw::check(key, rounds, roll.bytes(), grant, size_block, right.number())
 }
 
+/// Checks a queue of 0 to 64 grants ([`QUEUE_MOST_GRANTS`]) for one size block and one
+/// right, on one roll. Each grant gets a verdict of its own, in their order: `Ok` if it
+/// opens, else the reason with which [`check`] refuses it. A grant that is refused does not
+/// stop those after it.
+///
+/// The whole queue is refused, with no verdict, with [`Reason::KeyLength`],
+/// [`Reason::RoundCount`] or, for more than 64 grants, [`Reason::InputLength`]. So `?` on
+/// the whole does not say that a grant opens: look at its verdict. Who needs the contractor
+/// hands that grant to [`check`].
+///
+/// ```
+/// use gordzila::{check_queue, issue, Reason, Right, Roll};
+///
+/// let (key, rounds, block) = (&[9; 12], 10, 300);
+/// let mut roll = Roll::empty();
+/// roll.enter(7)?;
+/// let overwriting = issue(key, rounds, &roll, 7, block, Right::Overwriting)?;
+/// let reading = issue(key, rounds, &roll, 7, block, Right::Reading)?;
+///
+/// let pile = [reading, [0; 12], overwriting];
+/// let verdicts = check_queue(key, rounds, &roll, &pile, block, Right::Overwriting)?;
+/// assert_eq!(verdicts, [Err(Reason::OtherRight), Err(Reason::NotAGrant), Ok(())]);
+///
+/// // The grants that open, of a pile of any length.
+/// for pile in pile.chunks(gordzila::QUEUE_MOST_GRANTS) {
+///     let verdicts = check_queue(key, rounds, &roll, pile, block, Right::Overwriting)?;
+///     let opens = pile.iter().zip(verdicts).filter(|(_, verdict)| verdict.is_ok());
+///     assert!(opens.map(|(grant, _)| grant).eq([&overwriting]));
+/// }
+///
+/// let pile = [overwriting; 65];
+/// let refused = check_queue(key, rounds, &roll, &pile, block, Right::Overwriting);
+/// assert_eq!(refused, Err(Reason::InputLength));
+/// # Ok::<(), Reason>(())
+/// ```
+///
+/// # Panics
+///
+/// It panics where the library gives a grant a number that the header does not have. That
+/// takes an archive that does not belong to this package. [`raw::check_queue`] leaves the
+/// numbers as they are.
+pub fn check_queue(
+    key: &[u8],
+    rounds: u32,
+    roll: &Roll,
+    grants: &[[u8; BLOCK_BYTES]],
+    size_block: u32,
+    right: Right,
+) -> Result<Vec<Result<(), Reason>>, Reason> {
+    // A byte that the library did not write would open nothing.
+    let mut answers = vec![u8::MAX; grants.len()];
+    let (roll, grants, right) = (roll.bytes(), grants.concat(), right.number());
+    raw::check_queue(key, rounds, roll, &grants, size_block, right, &mut answers)?;
+    Ok(answers.into_iter().map(verdict).collect())
+}
+
+/// What a byte of the queue's answers says of its grant.
+fn verdict(byte: u8) -> Result<(), Reason> {
+    raw::done(byte.into())
+}
+
 /// A key's stage `n`, below the key's length: as many bytes as the key, then zeros.
 /// Refuses with [`Reason::KeyLength`] or [`Reason::StageOrList`].
 ///
@@ -179,4 +243,23 @@ fn prepared(
 ) -> Result<Vec<u8>, Reason> {
     let list = written::<LONGEST_LIST>(call)?;
     Ok(list[..BLOCK_BYTES * (rounds as usize + 1)].to_vec())
+}
+
+#[cfg(test)]
+mod tests {
+    use super::verdict;
+    use crate::Reason;
+
+    #[test]
+    fn only_0_opens_and_other_bytes_are_reasons() {
+        for byte in 0..=u8::MAX {
+            let said = std::panic::catch_unwind(|| verdict(byte));
+            match Reason::from_number(byte.into()) {
+                Some(reason) => assert_eq!(said.unwrap(), Err(reason)),
+                // A number that the header does not have is not taken for anything.
+                None if byte > 0 => assert!(said.is_err(), "{byte}"),
+                None => assert_eq!(said.unwrap(), Ok(())),
+            }
+        }
+    }
 }

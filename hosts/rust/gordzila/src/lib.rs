@@ -33,6 +33,9 @@
 //! # Ok::<(), Reason>(())
 //! ```
 //!
+//! A plotter that starts the day with a pile of cached grants for one size block hands
+//! them over to [`check_queue`], up to 64 in one call.
+//!
 //! A [`KeyHolder`] has one stage of a key and goes to the others, step by step or by
 //! walks.
 //!
@@ -54,8 +57,8 @@ mod sys;
 mod walks;
 
 pub use calls::{
-    check, decipher, encipher, issue, prepare_deciphering, prepare_enciphering, run, stage, subkey,
-    BLOCK_BYTES, STAGE_BYTES,
+    check, check_queue, decipher, encipher, issue, prepare_deciphering, prepare_enciphering, run,
+    stage, subkey, BLOCK_BYTES, QUEUE_MOST_GRANTS, STAGE_BYTES,
 };
 pub use grants::{Opened, Right};
 pub use holder::{KeyHolder, HOLDER_BYTES};

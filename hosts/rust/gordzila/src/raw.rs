@@ -6,8 +6,8 @@
 //! Each call stands here twice: with a name that ends in `_number` it gives the number
 //! that the C call answers, without it a `Result`. Where a call refuses, it writes
 //! nothing. Where it does not, it writes the bytes that are said, from the start of
-//! `out`, and none after them. Of several reasons that hold, it gives the first in the
-//! order that stands with the call.
+//! `out` or `answers`, and none after them. Of several reasons that hold, it gives the
+//! first in the order that stands with the call.
 //!
 //! ```
 //! use gordzila::{raw, Reason};
@@ -25,10 +25,10 @@
 //! header does not have. That takes an archive that does not belong to this package.
 
 pub use crate::sys::{
-    check_number, decipher_number, encipher_number, enter_number, holder_back_number,
-    holder_forward_number, holder_make_number, holder_subkey_number, holder_walk_number,
-    issue_number, prepare_deciphering_number, prepare_enciphering_number, run_number, stage_number,
-    subkey_number, withdraw_number,
+    check_number, check_queue_number, decipher_number, encipher_number, enter_number,
+    holder_back_number, holder_forward_number, holder_make_number, holder_subkey_number,
+    holder_walk_number, issue_number, prepare_deciphering_number, prepare_enciphering_number,
+    run_number, stage_number, subkey_number, withdraw_number,
 };
 use crate::{Opened, Reason, Right, Walked, Way, CONTRACTORS};
 
@@ -52,6 +52,38 @@ pub fn check(
     right: u32,
 ) -> Result<Opened, Reason> {
     opened(check_number(key, rounds, roll, grant, size_block, right))
+}
+
+/// Checks a queue of 0 to 64 grants, 12 bytes each, for one size block and one right: a
+/// byte for each grant to `answers`, 0 if it opens, else the number with which [`check`]
+/// refuses it. Order: 1, 2, 3 (roll or grants), 4, 7.
+///
+/// `Ok` does not say that a grant opens, only that each has its byte. Take every byte but 0
+/// for a refusal. `answers` keeps its bytes where the whole call is refused, so that those
+/// that were 0 before would look like grants that open:
+///
+/// ```
+/// use gordzila::{raw, Reason};
+///
+/// let (key, roll, grants) = (&[9; 12], &[0; 400], &[0; 24]);
+/// let mut answers = [0xff; 3];
+/// let refused = raw::check_queue(key, 10, roll, grants, 300, 3, &mut answers);
+/// assert_eq!((refused, answers), (Err(Reason::Right), [0xff; 3]));
+/// let done = raw::check_queue(key, 10, roll, grants, 300, 1, &mut answers);
+/// assert_eq!((done, answers), (Ok(()), [8, 8, 0xff]));
+/// ```
+pub fn check_queue(
+    key: &[u8],
+    rounds: u32,
+    roll: &[u8],
+    grants: &[u8],
+    size_block: u32,
+    right: u32,
+    answers: &mut [u8],
+) -> Result<(), Reason> {
+    done(check_queue_number(
+        key, rounds, roll, grants, size_block, right, answers,
+    ))
 }
 
 /// Enters a contractor on the roll's 400 bytes. Order: 3, 6, 21, 22.
@@ -148,7 +180,7 @@ pub fn holder_subkey(holder: &[u8], out: &mut [u8]) -> Result<(), Reason> {
 }
 
 /// What a number says that is 0 or that of a reason.
-fn done(number: u32) -> Result<(), Reason> {
+pub(crate) fn done(number: u32) -> Result<(), Reason> {
     match number {
         0 => Ok(()),
         _ => Err(reason(number)),

@@ -20,10 +20,11 @@ pub enum Reason {
     KeyLength = 1,
     /// 2: round count not 10..11, 14..17 or 18..23, by the key's length.
     RoundCount = 2,
-    /// 3: block or grant not 12 bytes; roll not 400 bytes.
+    /// 3: block or grant not 12 bytes; roll not 400 bytes; queue of grants over 768
+    /// bytes, or no multiple of 12.
     InputLength = 3,
-    /// 4: out shorter than what is to be written. Only the calls of [`raw`](crate::raw)
-    /// can give it.
+    /// 4: out shorter than what is to be written; answers shorter than the number of
+    /// grants. Only the calls of [`raw`](crate::raw) can give it.
     OutputTooShort = 4,
     /// 5: stage number not below the key's length in bytes; subkey list under 132
     /// bytes, over 288, or no multiple of 12.
@@ -96,8 +97,14 @@ impl Reason {
         match self {
             Reason::KeyLength => "key not 12, 18 or 24 bytes",
             Reason::RoundCount => "round count not 10..11, 14..17 or 18..23, by the key's length",
-            Reason::InputLength => "block or grant not 12 bytes; roll not 400 bytes",
-            Reason::OutputTooShort => "out shorter than what is to be written",
+            Reason::InputLength => {
+                "block or grant not 12 bytes; roll not 400 bytes; \
+                 queue of grants over 768 bytes, or no multiple of 12"
+            }
+            Reason::OutputTooShort => {
+                "out shorter than what is to be written; \
+                 answers shorter than the number of grants"
+            }
             Reason::StageOrList => {
                 "stage number not below the key's length in bytes; \
                  subkey list under 132 bytes, over 288, or no multiple of 12"

@@ -24,6 +24,19 @@ extern "C" {
         size_block: u32,
         right: u32,
     ) -> u32;
+    fn gordzila_check_queue(
+        key: *const u8,
+        key_length: usize,
+        rounds: u32,
+        roll: *const u8,
+        roll_length: usize,
+        grants: *const u8,
+        grants_length: usize,
+        size_block: u32,
+        right: u32,
+        answers: *mut u8,
+        answers_length: usize,
+    ) -> u32;
     fn gordzila_enter(roll: *mut u8, roll_length: usize, contractor: u32) -> u32;
     fn gordzila_withdraw(roll: *mut u8, roll_length: usize, contractor: u32) -> u32;
     fn gordzila_issue(
@@ -131,6 +144,36 @@ pub fn check_number(
             grant.len(),
             size_block,
             right,
+        )
+    }
+}
+
+/// The number that `gordzila_check_queue` returns: that of a reason to refuse the whole
+/// call, or 0. 0 does not say that a grant opens: `answers` has a byte for each.
+pub fn check_queue_number(
+    key: &[u8],
+    rounds: u32,
+    roll: &[u8],
+    grants: &[u8],
+    size_block: u32,
+    right: u32,
+    answers: &mut [u8],
+) -> u32 {
+    // SAFETY: pointers with the lengths of their slices; `answers`, which is lent for
+    // writing, overlaps no other slice.
+    unsafe {
+        gordzila_check_queue(
+            key.as_ptr(),
+            key.len(),
+            rounds,
+            roll.as_ptr(),
+            roll.len(),
+            grants.as_ptr(),
+            grants.len(),
+            size_block,
+            right,
+            answers.as_mut_ptr(),
+            answers.len(),
         )
     }
 }

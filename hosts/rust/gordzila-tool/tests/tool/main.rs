@@ -3,6 +3,7 @@
 mod cipher;
 mod grants;
 mod lives;
+mod queues;
 mod rolls;
 mod running;
 mod usage;

@@ -2,8 +2,10 @@
 
 use std::ffi::OsStr;
 use std::fs::{self, File};
+use std::io::Write;
 use std::path::{Path, PathBuf};
-use std::process::{self, Command, Output};
+use std::process::{self, Command, Output, Stdio};
+use std::thread;
 
 pub const TOOL: &str = env!("CARGO_BIN_EXE_gordzila");
 
@@ -61,6 +63,22 @@ impl Run {
 /// Runs the tool with words.
 pub fn run<S: AsRef<OsStr>>(words: &[S]) -> Run {
     Command::new(TOOL).args(words).output().unwrap().into()
+}
+
+/// Runs the tool with words and a text on standard input, which it may leave unread.
+pub fn run_fed<S: AsRef<OsStr>>(words: &[S], text: &[u8]) -> Run {
+    let mut command = Command::new(TOOL);
+    command.args(words).stdin(Stdio::piped());
+    let mut child = command
+        .stdout(Stdio::piped())
+        .stderr(Stdio::piped())
+        .spawn()
+        .unwrap();
+    let mut input = child.stdin.take().unwrap();
+    thread::scope(|scope| {
+        scope.spawn(move || input.write_all(text));
+        child.wait_with_output().unwrap().into()
+    })
 }
 
 /// Runs the tool with words, where nothing can be written to standard output.

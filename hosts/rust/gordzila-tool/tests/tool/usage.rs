@@ -2,12 +2,16 @@
 
 use crate::running::{line, run, run_unheard, Room, KEY};
 use std::ffi::OsStr;
+use std::fs;
 use std::os::unix::ffi::OsStrExt;
+use std::path::Path;
 
-/// Each subcommand with all its options, `ROLL` for the name of a roll.
-const COMPLETE: [&str; 10] = [
+/// Each subcommand with all its options, `ROLL` for the name of a roll, `GRANTS` for that
+/// of a file with one line.
+const COMPLETE: [&str; 11] = [
     "issue --key KEY --rounds 10 --roll ROLL --contractor 7 --block 300 --right 2",
     "check --key KEY --rounds 10 --roll ROLL --grant KEY --block 300 --right 2",
+    "queue --key KEY --rounds 10 --roll ROLL --grants GRANTS --block 300 --right 2",
     "encipher --key KEY --rounds 10 --block KEY",
     "decipher --key KEY --rounds 10 --block KEY",
     "stage --key KEY --stage 3",
@@ -21,12 +25,14 @@ const COMPLETE: [&str; 10] = [
 /// The words of a complete line, over a roll on which contractor 7 is in standing.
 fn words(complete: &str, room: &Room) -> Vec<String> {
     let roll = room.roll(&[(7, 1)]).to_str().unwrap().to_string();
+    let grants = room.file("grants", KEY.as_bytes());
     complete
         .split(' ')
         .map(|word| match word {
             "KEY" => KEY.to_string(),
             "ROLL" => roll.clone(),
             "ROLL2" => format!("{roll}2"),
+            "GRANTS" => grants.to_str().unwrap().to_string(),
             _ => word.to_string(),
         })
         .collect()
@@ -115,6 +121,8 @@ fn no_other_option_is_taken() {
     line("enter --roll x --contractor 1 --key 00").stopped("`--key` is no option");
     line("stage --rounds 10").stopped("`--rounds` is no option");
     line("walk --stage 3").stopped("`--stage` is no option");
+    line("queue --grant 00").stopped("`--grant` is no option");
+    line("check --grants x").stopped("`--grants` is no option");
 }
 
 #[test]
@@ -202,7 +210,8 @@ fn help_is_there_for_all() {
     let tool = line("--help").done();
     assert_eq!(line("help").done(), tool);
     for name in [
-        "issue", "check", "encipher", "decipher", "stage", "walk", "enter", "withdraw", "roll",
+        "issue", "check", "queue", "encipher", "decipher", "stage", "walk", "enter", "withdraw",
+        "roll",
     ] {
         let help = line(&format!("help {name}")).done();
         assert!(help.contains(&format!("usage: gordzila {name} ")), "{help}");
@@ -237,11 +246,32 @@ fn help_tells_what_a_grant_opens() {
     for (name, all) in [
         ("issue", &[opens][..]),
         ("check", &[opens, refused, answer]),
+        ("queue", &[opens]),
     ] {
         let help = line(&format!("help {name}")).done();
         for words in all {
             assert!(help.replace('\n', " ").contains(words), "{words}: {help}");
         }
+    }
+}
+
+/// Status 0 of a queue must not be taken for grants that open.
+#[test]
+fn help_tells_what_the_status_of_a_queue_says() {
+    for (name, words) in [
+        (
+            "",
+            "With `queue`, 0 says that each grant has its verdict, not that one opens",
+        ),
+        (
+            "queue",
+            "Exit status 0 says that each grant has its verdict, and not that one opens",
+        ),
+        ("queue", "- stands for standard input"),
+        ("queue", "more than 64 grants are with 3"),
+    ] {
+        let help = line(&format!("help {name}")).done();
+        assert!(help.replace('\n', " ").contains(words), "{words}: {help}");
     }
 }
 
@@ -258,7 +288,8 @@ fn help_tells_of_the_lock() {
 
 #[test]
 fn the_version_is_told() {
-    let expected = format!("gordzila {}\n", env!("CARGO_PKG_VERSION"));
+    let version = Path::new(env!("CARGO_MANIFEST_DIR")).join("../../../VERSION");
+    let expected = format!("gordzila {}", fs::read_to_string(version).unwrap());
     assert_eq!(line("--version").done(), expected);
     line("--version now").stopped("--version stands alone");
 }
@@ -266,7 +297,14 @@ fn the_version_is_told() {
 #[test]
 fn output_that_gets_lost_is_told() {
     let room = Room::new("unheard");
-    for complete in ["--version", "help", "help issue", COMPLETE[0], COMPLETE[8]] {
+    for complete in [
+        "--version",
+        "help",
+        "help issue",
+        COMPLETE[0],
+        COMPLETE[2],
+        COMPLETE[9],
+    ] {
         let run = run_unheard(&words(complete, &room));
         // These change nothing.
         assert!(!run.err.contains("change"), "{run:?}");

@@ -2,7 +2,9 @@
 //! be undefined behaviour, and no compiler would say so.
 
 use crate::repository_file;
-use gordzila::{Reason, Right, BLOCK_BYTES, HOLDER_BYTES, ROLL_BYTES, STAGE_BYTES};
+use gordzila::{
+    Reason, Right, BLOCK_BYTES, HOLDER_BYTES, QUEUE_MOST_GRANTS, ROLL_BYTES, STAGE_BYTES,
+};
 
 const HEADER: &str = "include/gordzila.h";
 const DECLARATIONS: &str = "hosts/rust/gordzila/src/sys.rs";
@@ -33,22 +35,40 @@ fn numbered(line: &str) -> Option<(u32, &str)> {
 fn the_rights_and_lengths_are_those_of_the_header() {
     let header = repository_file(HEADER);
     let (reading, overwriting) = (Right::Reading.number(), Right::Overwriting.number());
+    let longest_queue = QUEUE_MOST_GRANTS * BLOCK_BYTES;
     for text in [
         format!("GORDZILA_READING = {reading}, GORDZILA_OVERWRITING = {overwriting}"),
         format!("GORDZILA_BLOCK_BYTES = {BLOCK_BYTES}, GORDZILA_GRANT_BYTES = {BLOCK_BYTES}"),
         format!("GORDZILA_ROLL_BYTES = {ROLL_BYTES} }}"),
         format!("GORDZILA_STAGE_BYTES = {STAGE_BYTES}, GORDZILA_SUBKEY_BYTES = {BLOCK_BYTES},"),
         format!("GORDZILA_HOLDER_BYTES = {HOLDER_BYTES} }}"),
+        format!("GORDZILA_QUEUE_MOST_GRANTS = {QUEUE_MOST_GRANTS},"),
+        format!("GORDZILA_LONGEST_QUEUE_BYTES = {longest_queue} }}"),
     ] {
         assert!(header.contains(&text), "{text}");
     }
+}
+
+/// The package has the version of the library. The header tells first of the newest changes
+/// for hosts, which move the second number.
+#[test]
+fn the_version_is_that_of_the_library_and_of_the_newest_changes() {
+    let version = env!("CARGO_PKG_VERSION");
+    assert_eq!(repository_file("VERSION").trim_end(), version);
+    let (minor, _) = version.rsplit_once('.').unwrap();
+    let header = repository_file(HEADER);
+    let (_, newest) = header.split_once("\n * Changes in ").unwrap();
+    assert!(
+        newest.starts_with(&format!("{minor}.0, for hosts")),
+        "{minor}"
+    );
 }
 
 #[test]
 fn the_declarations_are_those_of_the_header() {
     let header = in_c(&repository_file(HEADER));
     let declared = in_rust(&repository_file(DECLARATIONS));
-    assert_eq!(header.len(), 16);
+    assert_eq!(header.len(), 17);
     assert_eq!(declared, header);
 }
 

@@ -1,7 +1,7 @@
 //! The roll and the grants, against the stored output of the independent program.
 
 use crate::{block_of, bytes_of, digits_of, number_of, repository_file};
-use gordzila::{check, issue, Opened, Reason, Right, Roll};
+use gordzila::{check, check_queue, issue, Opened, Reason, Right, Roll};
 
 /// How many lines a life has.
 const LINES: usize = 28;
@@ -46,6 +46,38 @@ fn the_lives_have_the_rule_on_rights() {
     assert!(looks > 0 && refusals > 0);
 }
 
+/// The last lines of a life are checks on one roll, of grant B, of grant A and of B with one
+/// byte changed: in one queue they get the same verdicts.
+#[test]
+fn a_queue_says_what_the_independent_program_says_one_by_one() {
+    let text = repository_file("crates/grant_life/stdout");
+    let lines: Vec<&str> = text.lines().collect();
+    for lines in lines.chunks(LINES) {
+        let mut life = Life::new(lines[0]);
+        for call in [Life::enter, Life::withdraw, Life::enter] {
+            assert!(call(&mut life).ends_with(" 0"));
+        }
+        let (a, b) = (grant_in(lines[3]), grant_in(lines[13]));
+        let mut pile = vec![b, a];
+        pile.extend((0..b.len()).map(|at| damaged(b, at)));
+        let expected: Vec<u32> = lines[14..].iter().map(|line| refusal_in(line)).collect();
+        assert_eq!(life.queued(&pile), expected, "{}", lines[0]);
+        assert_eq!(expected[..2], [0, 23], "{}", lines[0]);
+    }
+}
+
+/// The number of the refusal in a line `check NUMBER ...` or `damaged BYTE NUMBER ...`.
+fn refusal_in(line: &str) -> u32 {
+    let fields: Vec<&str> = line.split(' ').collect();
+    number_of(fields[usize::from(fields[0] == "damaged") + 1])
+}
+
+/// A grant with one byte changed.
+fn damaged(mut grant: [u8; 12], at: usize) -> [u8; 12] {
+    grant[at] ^= 1;
+    grant
+}
+
 impl Life {
     fn new(line: &str) -> Life {
         let fields: Vec<&str> = line.split(' ').collect();
@@ -73,9 +105,7 @@ impl Life {
         let b = grant_in(&lines[12]);
         lines.extend([self.check(&b), self.check(&a)]);
         for at in 0..b.len() {
-            let mut damaged = b;
-            damaged[at] ^= 1;
-            let line = self.check(&damaged);
+            let line = self.check(&damaged(b, at));
             lines.push(line.replace("check", &format!("damaged {at}")));
         }
         lines
@@ -95,6 +125,13 @@ impl Life {
             Ok(grant) => format!("issue 0 {}", digits_of(&grant)),
             Err(reason) => format!("issue {}", reason.number()),
         }
+    }
+
+    /// The verdicts of a queue, as numbers.
+    fn queued(&self, pile: &[[u8; 12]]) -> Vec<u32> {
+        let (block, right) = (self.block, self.right);
+        let verdicts = check_queue(&self.key, self.rounds, &self.roll, pile, block, right);
+        verdicts.unwrap().into_iter().map(number).collect()
     }
 
     fn check(&self, grant: &[u8]) -> String {

@@ -5,11 +5,13 @@ use crate::repository_file;
 use gordzila::{raw, KeyHolder, Opened, Right, Roll, Walked, Way};
 
 /// The readers, each as it stands in the header.
-const READERS: [&str; 6] = [
+const READERS: [&str; 7] = [
     "int gordzila_opens(uint32_t answer) { return answer >= 1000; }",
     "uint32_t gordzila_answered_right(uint32_t answer) { return answer / 1000; }",
     "uint32_t gordzila_answered_contractor(uint32_t answer) \
      { return gordzila_opens(answer) ? answer % 1000 : 0; }",
+    "int gordzila_queue_opens(uint32_t returned, uint8_t byte) \
+     { return returned == 0 && byte == 0; }",
     "int gordzila_walked(uint32_t answer) { return answer >= 1000; }",
     "uint32_t gordzila_walked_steps(uint32_t answer) \
      { return gordzila_walked(answer) ? answer % 1000 : 0; }",
@@ -21,6 +23,11 @@ const READERS: [&str; 6] = [
 fn read_check(answer: u32) -> (bool, u32, u32) {
     let opens = answer >= 1000;
     (opens, answer / 1000, if opens { answer % 1000 } else { 0 })
+}
+
+/// What the fourth says: whether a grant of a queue opens.
+fn read_queue(returned: u32, byte: u8) -> bool {
+    returned == 0 && byte == 0
 }
 
 /// What the others say: whether a holder walked, how many steps, and whether back.
@@ -57,6 +64,29 @@ fn a_check_says_what_the_readers_say() {
                 assert!([0, asked].contains(&said.1), "the right asked for");
             }
         }
+    }
+}
+
+/// Over answers that were cleared, so that a queue that is refused leaves zeros.
+#[test]
+fn a_queue_says_what_the_reader_says() {
+    let (key, mut roll) = (&[1; 12], Roll::empty());
+    roll.enter(7).unwrap();
+    let issued = |right| gordzila::issue(key, 10, &roll, 7, 300, right).unwrap();
+    let pile = [issued(Right::Reading), [0; 12], issued(Right::Overwriting)];
+    for (rounds, right) in [
+        (9, Right::Reading),
+        (10, Right::Reading),
+        (10, Right::Overwriting),
+    ] {
+        let (grants, asked, mut answers) = (pile.concat(), right.number(), [0; 3]);
+        let returned =
+            raw::check_queue_number(key, rounds, roll.bytes(), &grants, 300, asked, &mut answers);
+        let said = match gordzila::check_queue(key, rounds, &roll, &pile, 300, right) {
+            Ok(verdicts) => verdicts.iter().map(|verdict| verdict.is_ok()).collect(),
+            Err(_) => vec![false; 3],
+        };
+        assert_eq!(said, answers.map(|byte| read_queue(returned, byte)));
     }
 }
 

@@ -1,0 +1,110 @@
+// Reads rows of numbers, lengths and what else a queue is checked with, and prints what the call answers: its number, the bytes for the
+// grants, and whether every byte that it has no leave to write was left alone. The rows have each reason for refusing alone, each two that can hold
+// together, and both sides of every limit (tools/expected-queue).
+
+use roll::Roll;
+
+const MARK: u8 = 165;
+
+const GRANTS: usize = 65;
+
+fn byte(n: usize) -> u8 {
+    (n % 256) as u8
+}
+
+// Plain bytes for size block 300 or 301: contractor, count, block and right, and the mark of a grant.
+fn plain(contractor: u8, count: u8, block: usize, right: u8) -> [u8; 12] {
+    [
+        0,
+        contractor,
+        0,
+        count,
+        0,
+        0,
+        byte(block / 256),
+        byte(block),
+        right,
+        71,
+        82,
+        68,
+    ]
+}
+
+// Seven kinds of grants, of which two open for overwriting and three for reading.
+fn kind(n: usize) -> [u8; 12] {
+    if n == 0 {
+        plain(1, 1, 300, 2)
+    } else if n == 1 {
+        plain(1, 1, 300, 1)
+    } else if n == 2 {
+        plain(1, 1, 301, 2)
+    } else if n == 3 {
+        plain(1, 1, 300, 3)
+    } else if n == 4 {
+        plain(2, 2, 300, 2)
+    } else if n == 5 {
+        plain(3, 1, 300, 2)
+    } else {
+        plain(3, 3, 300, 2)
+    }
+}
+
+// One grant more than a queue may have, of each kind in turn, enciphered under twelve bytes of the key with ten rounds.
+fn grants() -> [u8; 780] {
+    let key = [7u8; 12];
+    let mut out = [0u8; 780];
+    let mut i: usize = 0;
+    while i < GRANTS {
+        let at = 12 * i;
+        cipher::encipher(&key, 10, &kind(i % 7), &mut out[at..at + 12]);
+        i += 1;
+    }
+    out
+}
+
+// A roll on which contractors 1, 2 and 3 have their numbers as counts, and every other none.
+fn roll() -> Roll {
+    let mut counts = [0u16; 200];
+    counts[0] = 1;
+    counts[1] = 2;
+    counts[2] = 3;
+    Roll { counts }
+}
+
+fn line(grants: &[u8; 780]) {
+    let key = [7u8; 32];
+    let mut out = [MARK; 80];
+    printing::word(b"queue");
+    let k = printing::echo();
+    let r = printing::echo_u32();
+    let l = printing::echo();
+    let o = printing::echo();
+    let right = printing::echo_u32();
+    let lent = printing::first(grants, l);
+    let answer = queue::check(
+        printing::first(&key, k),
+        r,
+        roll(),
+        lent,
+        300,
+        right,
+        printing::first_mut(&mut out, o),
+    );
+    let number = refusal::outcome_number(answer);
+    let written = if number == 0 { l / 12 } else { 0 };
+    printing::number(number as u64);
+    printing::space();
+    printing::hex_bytes(printing::first(&out, written));
+    printing::kept(&out, written, MARK);
+}
+
+fn main() {
+    let grants = grants();
+    let rows = printing::read();
+    let mut i: u64 = 0;
+    while i < rows {
+        printing::read();
+        line(&grants);
+        i += 1;
+    }
+}

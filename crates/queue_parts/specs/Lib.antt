@@ -1,0 +1,3 @@
+pub mod QueueParts
+pub mod ForProver
+pub mod KnownAnswers

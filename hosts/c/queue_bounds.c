@@ -1,0 +1,183 @@
+/*
+ * The queue, tested as bounds.c tests the other calls: every buffer lies between two pages that may not be touched, once right after
+ * the first, once right before the second (guard.h); lengths and numbers lie on both sides of each limit; the answer has to be the
+ * first reason in the header's order that holds (rules.h); and nothing may change but the bytes of answers that a call that does not
+ * refuse writes, one for each grant. These have to be what a single check of each grant answers, and that what the rules say of it.
+ *
+ * Of each of 11 keys with each of 13 round counts there are queues of 13 lengths with 11 lengths of answers, on 4 rolls, for 5 rights:
+ * 143 * 2,860. Of the 6 of these pairs that are right there is a pile of 64 grants that are enciphered here, for each of 2 size blocks
+ * and 2 rights the single checks of all, and a queue of each number of them from 0 to 64: 6 * (64 + 4 * (64 + 65)). On both sides,
+ * 2 * (408,980 + 3,480) are 824,920 calls. Prints how many did what they have to; the status is 1 where one did not.
+ */
+#include "guard.h"
+#include "rules.h"
+
+enum { MOST = GORDZILA_QUEUE_MOST_GRANTS };
+
+static const size_t key_lengths[] = {0, 1, 11, 12, 13, 17, 18, 19, 23, 24, 25};
+static const uint32_t round_counts[] = {0, 9, 10, 11, 12, 13, 14, 17, 18, 23, 24, 266, 0xffffffffu};
+static const size_t roll_lengths[] = {0, 399, 400, 401};
+static const uint32_t rights[] = {0, 1, 2, 3, 258};
+static const size_t queue_lengths[] = {0, 1, 11, 12, 13, 24, 755, 756, 767, 768, 769, 780, 1536};
+static const size_t answer_lengths[] = {0, 1, 2, 3, 62, 63, 64, 65, 66, 128, 256};
+
+/* A contractor and their count on the roll; all others have 0. Those with 1, 5 and 65,533 are in standing. */
+static const unsigned counts[][2] = {{7, 1}, {8, 2}, {200, 5}, {1, 65533}, {9, 65535}};
+
+/* What a grant says, and the last byte of its mark, which is 0x44. */
+struct plain {
+    unsigned contractor, count, block;
+    uint8_t right, mark;
+};
+
+static const struct plain plains[17] = {
+    {7, 1, 300, 2, 0x44},   {7, 1, 300, 1, 0x44},     {7, 1, 301, 2, 0x44},     {7, 1, 301, 1, 0x44},   {7, 3, 300, 2, 0x44},
+    {7, 3, 300, 1, 0x44},   {8, 2, 300, 2, 0x44},     {8, 1, 300, 1, 0x44},     {200, 5, 300, 2, 0x44}, {200, 5, 301, 1, 0x44},
+    {200, 1, 301, 1, 0x44}, {1, 65533, 300, 1, 0x44}, {9, 65535, 300, 2, 0x44}, {0, 0, 300, 2, 0x44},   {201, 1, 300, 1, 0x44},
+    {7, 1, 300, 3, 0x44},   {7, 1, 300, 2, 0x45},
+};
+
+static struct lent key, roll, grants, answers;
+
+/* The pile, twice on end, so that a queue may start at any of its grants. */
+static uint8_t pile[2 * MOST][GORDZILA_GRANT_BYTES];
+
+/* What the single checks say of the pile as bytes of a queue: by size block from 300 on, and by right from 1 on. */
+static uint8_t verdicts[2][2][MOST];
+
+/* All kinds stand in the first 17 grants, in the next 17 and in those after, each time in another order. */
+static const struct plain *plain_at(size_t i) { return &plains[(i * i * i + i / 17) % 17]; }
+
+static unsigned count_of(unsigned contractor) {
+    for (size_t i = 0; i < COUNT(counts); i++) {
+        if (counts[i][0] == contractor) {
+            return counts[i][1];
+        }
+    }
+    return 0;
+}
+
+static void lend_roll(size_t length) {
+    uint8_t bytes[GORDZILA_ROLL_BYTES + 1] = {0};
+    for (size_t i = 0; i < COUNT(counts); i++) {
+        bytes[2 * (counts[i][0] - 1)] = (uint8_t)(counts[i][1] / 256);
+        bytes[2 * (counts[i][0] - 1) + 1] = (uint8_t)(counts[i][1] % 256);
+    }
+    lend(&roll, bytes, length);
+}
+
+/* Bytes that are no number of a refusal, and no two beside each other alike. */
+static void lend_answers(size_t length) {
+    uint8_t bytes[LONGEST_LENT];
+    for (size_t i = 0; i < length; i++) {
+        bytes[i] = (uint8_t)(128 + i % 101);
+    }
+    lend(&answers, bytes, length);
+}
+
+/* The reason with which a check refuses a grant, or 0, by the rules. */
+static uint32_t refusal(const struct plain *p, uint32_t block, uint32_t right) {
+    unsigned count = count_of(p->contractor);
+    int whole = p->contractor >= 1 && p->contractor <= 200 && is_right(p->right) && p->mark == 0x44;
+    uint32_t number = then(0, !whole, GORDZILA_NOT_A_GRANT);
+    number = then(number, p->block != block, GORDZILA_OTHER_BLOCK);
+    number = then(number, falls_short(p->right, right), GORDZILA_OTHER_RIGHT);
+    number = then(number, count % 2 == 0 || count == 65535, GORDZILA_NOT_IN_STANDING);
+    return then(number, p->count != count, GORDZILA_OTHER_COUNT);
+}
+
+/* The pile of grants under the key that is lent: plain bytes, enciphered. */
+static void make_pile(uint32_t rounds) {
+    for (size_t i = 0; i < MOST; i++) {
+        const struct plain *p = plain_at(i);
+        const uint8_t plain[12] = {0, (uint8_t)p->contractor, (uint8_t)(p->count / 256), (uint8_t)(p->count % 256), 0, 0,
+                                   (uint8_t)(p->block / 256), (uint8_t)(p->block % 256), p->right, 0x47, 0x52, p->mark};
+        lend(&grants, plain, sizeof plain);
+        lend_answers(sizeof plain);
+        judge("encipher",
+              gordzila_encipher(key.at, key.length, rounds, grants.at, grants.length, answers.at, answers.length), 0, &answers, 12);
+        memcpy(pile[i], answers.at, sizeof plain);
+        memcpy(pile[MOST + i], answers.at, sizeof plain);
+    }
+}
+
+/* Checks the grants of the pile one by one. */
+static void singles(uint32_t rounds, uint32_t block, uint32_t right) {
+    lend_answers(0);
+    for (size_t i = 0; i < MOST; i++) {
+        uint32_t expected = refusal(plain_at(i), block, right);
+        lend(&grants, pile[i], GORDZILA_GRANT_BYTES);
+        uint32_t answer = gordzila_check(key.at, key.length, rounds, roll.at, roll.length, grants.at, grants.length, block, right);
+        judge("check", answer, expected == 0 ? 1000 * right + plain_at(i)->contractor : expected, NULL, 0);
+        verdicts[block - 300][right - 1][i] = (uint8_t)(gordzila_opens(answer) ? 0 : answer);
+    }
+}
+
+/* One queue: so many bytes of the pile, from one of its grants on, with so many bytes for the answers. */
+static void queue(uint32_t rounds, size_t from, size_t length, uint32_t block, uint32_t right, size_t room) {
+    size_t number = length / 12;
+    uint32_t expected = of_rounds(key.length, rounds);
+    expected = then(expected, roll.length != 400 || length % 12 != 0 || length > 768, GORDZILA_INPUT_LENGTH);
+    expected = then(expected, room < number, GORDZILA_OUTPUT_TOO_SHORT);
+    expected = then(expected, !is_right(right), GORDZILA_RIGHT);
+    lend(&grants, pile[from], length);
+    lend_answers(room);
+    uint32_t got = gordzila_check_queue(key.at, key.length, rounds, roll.at, roll.length, grants.at, grants.length, block, right,
+                                        answers.at, answers.length);
+    int wrong = changed_beside(got, &answers, number);
+    for (size_t i = 0; expected == 0 && i < number; i++) {
+        wrong |= answers.at[i] != verdicts[block - 300][right - 1][(from + i) % MOST];
+    }
+    count("queue", got, expected, wrong);
+}
+
+/* Every number of grants, each time from another one on, with one byte of answers more than they need. */
+static void numbers_of_grants(uint32_t rounds) {
+    lend_roll(GORDZILA_ROLL_BYTES);
+    make_pile(rounds);
+    for (uint32_t block = 300; block <= 301; block++) {
+        for (uint32_t right = GORDZILA_READING; right <= GORDZILA_OVERWRITING; right++) {
+            singles(rounds, block, right);
+            for (size_t n = 0; n <= MOST; n++) {
+                queue(rounds, n, GORDZILA_GRANT_BYTES * n, block, right, n + 1);
+            }
+        }
+    }
+}
+
+static void lengths(uint32_t rounds, uint32_t right) {
+    for (size_t q = 0; q < COUNT(queue_lengths); q++) {
+        for (size_t a = 0; a < COUNT(answer_lengths); a++) {
+            queue(rounds, 0, queue_lengths[q], 300, right, answer_lengths[a]);
+        }
+    }
+}
+
+/* Where key and round count are wrong, the queue is of a pile under other ones, or of zeros. */
+static void with(uint32_t rounds) {
+    if (of_rounds(key.length, rounds) == 0) {
+        numbers_of_grants(rounds);
+    }
+    for (size_t r = 0; r < COUNT(roll_lengths); r++) {
+        lend_roll(roll_lengths[r]);
+        for (size_t i = 0; i < COUNT(rights); i++) {
+            lengths(rounds, rights[i]);
+        }
+    }
+}
+
+int main(void) {
+    make_room(&key);
+    make_room(&roll);
+    make_room(&grants);
+    make_room(&answers);
+    for (at_the_end = 0; at_the_end <= 1; at_the_end++) {
+        for (size_t k = 0; k < COUNT(key_lengths); k++) {
+            lend_any(&key, key_lengths[k]);
+            for (size_t r = 0; r < COUNT(round_counts); r++) {
+                with(round_counts[r]);
+            }
+        }
+    }
+    return told("calls");
+}
