@@ -2,14 +2,13 @@
 use mathlib.Core.Path.{_≡_, sym, ap, _∙_, subst}
 use mathlib.Core.Bool.{Bool, true}
 use mathlib.Core.List.{List, _++_}
-use Prim.Native.Nat.{ℕ, _+_, _*_, _%_, _≤_, _<_}
+use Prim.Native.Nat.{ℕ, _+_, _*_, _≤_, _<_}
 use native.Mathlib.Omega.{arith}
 use lib.Dec.{eqb, leb}
 use lib.ListN.{length, take, drop, length-append, take-append-drop}
 use lib.Seq.{ext-getD, take-at}
-use borrow.Author.Tests.{eqb-true, eq-eqb, leb-true}
+use borrow.Author.Tests.{eq-eqb, leb-true}
 use Rattle.basics.specs.Bytes.{AreBytes}
-use Rattle.basics.proofs.Tests.{and-first}
 use Rattle.refusal.specs.Tries.{first}
 use Rattle.refusal.proofs.Tries.{first-then}
 use Rattle.rounds.specs.Rounds.{listedFrom}
@@ -30,7 +29,7 @@ use Rattle.roll.specs.Roll.{countOf}
 use Rattle.grant.specs.Grants.{isRight, contractorIn}
 use Rattle.judging.specs.Judging.{inputTries, plainTries, judgedNumber}
 use Rattle.checking.specs.Checking.{openedGrant, countNow, checkNumber}
-use Rattle.queue_parts.specs.QueueParts.{queueLength, grantsIn, grantAt, queueInputTries}
+use Rattle.queue_parts.specs.QueueParts.{grantsIn, grantAt, queueInputTries}
 use Rattle.queue_parts.specs.ForProver.{Answerable, numberOver}
 use Rattle.queue_parts.proofs.Answers.{grant-length}
 use Rattle.queue.specs.Queue.{queueAnswers}
@@ -80,7 +79,6 @@ tried-with n rounds b lengths grants room right r e l = e ∙ ap (λ (b : Bool).
 pub record Passed (key : List ℕ) (rounds : ℕ) (grants out : List ℕ) (right : ℕ) : Type 0 where
   pub key-length : keyLength (length key) ≡ true
   pub round-count : roundsAllowed (length key) rounds ≡ true
-  pub whole : queueLength (length grants) ≡ true
   pub room : leb (grantsIn (length grants)) (length out) ≡ true
   pub asked : isRight right ≡ true
 
@@ -113,7 +111,6 @@ module _ {key : List ℕ} {rounds : ℕ} {grants out : List ℕ} {right : ℕ} (
       let l = allowed (length key) rounds (p .key-length) (p .round-count) in
       record {
         listed = ap listLength list-length ∙ accepted rounds (l .least) (omega (arith, l .most, l .key));
-        whole = eqb-true (length grants % 12) 0 (and-first (eqb (length grants % 12) 0) (leb (length grants) 768) (p .whole));
         room = leb-true (grantsIn (length grants)) (length out) (p .room);
       }
 

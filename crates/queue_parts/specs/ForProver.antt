@@ -2,7 +2,7 @@
 use mathlib.Core.Bool.{true}
 use mathlib.Core.Path.{_≡_}
 use mathlib.Core.List.{List}
-use Prim.Native.Nat.{ℕ, _%_, _≤_}
+use Prim.Native.Nat.{ℕ, _≤_}
 use Rattle.list_rounds.specs.ListRounds.{listLength}
 use Rattle.engine.specs.Engine.{engineBlock}
 use Rattle.roll.specs.declared.Roll.{Roll}
@@ -11,10 +11,9 @@ use Rattle.grant.specs.Grants.{contractorIn}
 use Rattle.judging.specs.Judging.{judgedNumber}
 use Rattle.queue_parts.specs.QueueParts.{grantsIn}
 
--- a list that the engine takes, whole grants, and room for an answer to each
+-- a list that the engine takes, and room for an answer to each grant
 pub record Answerable (list grants answers : ℕ) : Type 0 where
   pub listed : listLength list ≡ true
-  pub whole : grants % 12 ≡ 0
   pub room : grantsIn grants ≤ answers
 
 -- the number of the verdict on a grant that is opened over a list

@@ -36,7 +36,7 @@ passed : (c : tie.Else1) → let a = start (c .before) .args in Passed (now (a .
 passed c =
     let k = c .before in
     let p = all-passed _ (tries (start k)) (tried k) _ (k .is-refused .ensures) refl (c .if1 .left) in
-    record { key-length = p .0; round-count = p .1 .0; whole = p .1 .1 .0; room = p .1 .1 .1 .0; asked = p .1 .1 .1 .1 .0 }
+    record { key-length = p .0; round-count = p .1 .0; room = p .1 .1 .1 .0; asked = p .1 .1 .1 .1 .0 }
 
 returns : tie.Need-returns
 unfolding queueOutput

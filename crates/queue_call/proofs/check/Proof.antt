@@ -7,12 +7,10 @@ use denote.Ref.{now}
 use lib.Dec.{eqb}
 use lib.ListN.{length}
 use Rattle.basics.specs.Bytes.{AreBytes}
-use Rattle.basics.proofs.Tests.{and-second}
 use Rattle.refusal.specs.Reasons.{outcomeNumber}
 use Rattle.refusal.specs.Tries.{Try, first}
 use Rattle.refusal.proofs.Ladder.{all-passed, returns-refused, returns-done}
 use Rattle.roll_bytes.specs.RollBytes.{rollLength, rollOf}
-use Rattle.queue_parts.specs.QueueParts.{queueLength}
 use Rattle.queue.specs.Queue.{queueAnswers}
 use Rattle.queue_call.specs.QueueCall.{callQueueTries, callQueueOutput}
 use Rattle.queue.proofs.Answered.{tried-with, Passed, fills, list-length, list-inside, answerable, all-answered}
@@ -44,9 +42,7 @@ passed : (c : tie.Else1) → let a = start (c .before) .args in Passed (now (a .
 passed c =
     let k = c .before in
     let p = all-passed _ (tries (start k)) (tried k) _ (k .is-refused .ensures) refl (c .if1 .left) in
-    let a = start k .args in
-    let whole = and-second (eqb (length (now (a .roll))) rollLength) (queueLength (length (now (a .grants)))) (p .1 .1 .0) in
-    record { key-length = p .0; round-count = p .1 .0; whole = whole; room = p .1 .1 .1 .0; asked = p .1 .1 .1 .1 .0 }
+    record { key-length = p .0; round-count = p .1 .0; room = p .1 .1 .1 .0; asked = p .1 .1 .1 .1 .0 }
 
 returns : tie.Need-returns
 unfolding callQueueOutput
