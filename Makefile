@@ -6,8 +6,9 @@
 # make install    header, library and pkg-config file to PREFIX (/usr/local), after make library
 # make hosts  the static library and the programs over it, built and run
 # make bench  times, side by side with plain C, the independent program and other ciphers; no test
+# make stack  how much stack the calls on pages take, painted; no test
 
-.PHONY: run library install test checks reading vectors reference hosts bench
+.PHONY: run library install test checks reading vectors reference hosts bench stack
 
 PREFIX ?= /usr/local
 
@@ -55,3 +56,8 @@ hosts:
 # The proved library beside plain C, the independent program and other ciphers, in one run.
 bench: library
 	cd bench && cargo run --release --offline
+
+# The stack of the checks of grants and of the calls on pages.
+stack: library
+	gcc -O2 -Iinclude bench/stack.c target/staticlib/libcapi.a -o target/stack
+	target/stack

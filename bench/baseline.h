@@ -3,7 +3,8 @@
  * give the same answers as those of the proved library: 0, or the number of the
  * reason for which a call refuses; a check that opens gives 1,000 times the
  * right asked for plus the contractor. Of a queue, each grant has a byte: 0 if it
- * opens, or the number for which a check of it refuses. A call that refuses
+ * opens, or the number for which a check of it refuses. A page that opens gives
+ * the numbers of its header below the highest of 64 bits. A call that refuses
  * leaves the output as it was.
  *
  * Each C file is compiled once for every compiler and set of flags, and gives
@@ -25,7 +26,12 @@ enum {
     MOST_LIST = BLOCK * (MOST_ROUNDS + 1),
     CONTRACTORS = 200,
     ROLL = 2 * CONTRACTORS,
-    MOST_GRANTS = 64
+    MOST_GRANTS = 64,
+    PAYLOAD = 41 * BLOCK,
+    CHECKED = BLOCK + PAYLOAD,
+    CHECK = 8,
+    PAGE = CHECKED + CHECK,
+    SCRATCH = 2 * MOST_LIST
 };
 
 enum answer {
@@ -39,6 +45,9 @@ enum answer {
     NOT_A_GRANT = 8,
     OTHER_BLOCK = 9,
     OTHER_RIGHT = 10,
+    NOT_A_PAGE = 11,
+    PAYLOAD_TOO_LONG = 12,
+    OTHER_CHECK = 13,
     NOT_IN_STANDING = 20,
     OTHER_COUNT = 23
 };
@@ -80,6 +89,26 @@ typedef uint32_t queue_call(const uint8_t *key, size_t key_len,
                             uint32_t size_block, uint32_t right,
                             uint8_t *answers, size_t answers_len);
 
+/*
+ * A page of 512 bytes, of a payload of up to 492, under two keys. The subkey
+ * lists sit in the scratch, whose first 576 bytes are cleared.
+ */
+typedef uint32_t seal_call(const uint8_t *first_key, size_t first_key_len,
+                           const uint8_t *second_key, size_t second_key_len,
+                           uint32_t rounds,
+                           uint32_t size_block, uint16_t page_number,
+                           const uint8_t *payload, size_t payload_len,
+                           uint8_t *scratch, size_t scratch_len,
+                           uint8_t *out, size_t out_len);
+
+/* The 492 bytes of the payload of such a page. */
+typedef uint64_t open_call(const uint8_t *first_key, size_t first_key_len,
+                           const uint8_t *second_key, size_t second_key_len,
+                           uint32_t rounds,
+                           const uint8_t *page, size_t page_len,
+                           uint8_t *scratch, size_t scratch_len,
+                           uint8_t *out, size_t out_len);
+
 struct baseline {
     cipher_call *encipher;
     cipher_call *decipher;
@@ -88,6 +117,8 @@ struct baseline {
     run_call *run;
     check_call *check;
     queue_call *check_queue;
+    seal_call *seal_page;
+    open_call *open_page;
 };
 
 extern const struct baseline BASELINE;

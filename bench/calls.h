@@ -9,6 +9,7 @@
 #include "baseline.h"
 
 #include <stdbool.h>
+#include <string.h>
 
 /* The checks, in the order in which the calls make them. */
 
@@ -232,6 +233,177 @@ static uint32_t check_queue(const uint8_t *key, size_t key_len,
     return DONE;
 }
 
+/*
+ * Pages. A page has a header, which stays plain, 492 bytes of payload, and a check
+ * of 8 bytes. The header, each number big end first: 4 for the size block, 2 for
+ * the page number, 2 for the used count, 4 zeros. The payload is chained under the
+ * first key, from the enciphered header. The check is the first bytes of the last
+ * block of header and payload as they are stored, chained from zero under the
+ * second key. One list after the other is made in the scratch.
+ */
+
+static uint32_t check_page_keys(const uint8_t *first_key, size_t first_key_len,
+                                const uint8_t *second_key,
+                                size_t second_key_len, uint32_t rounds)
+{
+    uint32_t refusal = check_key(first_key_len, rounds);
+
+    if (refusal == KEY_LENGTH || second_key_len != first_key_len
+        || memcmp(first_key, second_key, first_key_len) == 0)
+        return KEY_LENGTH;
+    return refusal;
+}
+
+static void put_number(uint8_t *bytes, int length, uint32_t n)
+{
+    for (int i = length - 1; i >= 0; i--) {
+        bytes[i] = (uint8_t)n;
+        n >>= 8;
+    }
+}
+
+static inline void add_block(uint8_t sum[BLOCK], const uint8_t block[BLOCK])
+{
+    for (int i = 0; i < BLOCK; i++)
+        sum[i] ^= block[i];
+}
+
+/*
+ * Chains whole blocks where they stand. The first is added to what link holds, and
+ * the last one is left there.
+ */
+static void chain(const uint8_t *list, uint32_t rounds, uint8_t link[BLOCK],
+                  uint8_t *bytes, size_t length)
+{
+    for (size_t at = 0; at < length; at += BLOCK) {
+        add_block(link, bytes + at);
+        run_list(list, rounds, link, link);
+        memcpy(bytes + at, link, BLOCK);
+    }
+}
+
+/* The check of a page, over all that stands before it. */
+static void make_check(const uint8_t *list, uint32_t rounds,
+                       const uint8_t *page, uint8_t check[BLOCK])
+{
+    memset(check, 0, BLOCK);
+    for (size_t at = 0; at < CHECKED; at += BLOCK) {
+        add_block(check, page + at);
+        run_list(list, rounds, check, check);
+    }
+}
+
+static uint32_t seal_page(const uint8_t *first_key, size_t first_key_len,
+                          const uint8_t *second_key, size_t second_key_len,
+                          uint32_t rounds,
+                          uint32_t size_block, uint16_t page_number,
+                          const uint8_t *payload, size_t payload_len,
+                          uint8_t *scratch, size_t scratch_len,
+                          uint8_t *out, size_t out_len)
+{
+    uint32_t refusal = check_page_keys(first_key, first_key_len, second_key,
+                                       second_key_len, rounds);
+    uint8_t link[BLOCK];
+
+    if (refusal != DONE)
+        return refusal;
+    if (scratch_len < SCRATCH || out_len < PAGE)
+        return OUTPUT_TOO_SHORT;
+    if (payload_len > PAYLOAD)
+        return PAYLOAD_TOO_LONG;
+    put_number(out, 4, size_block);
+    put_number(out + 4, 2, page_number);
+    put_number(out + 6, 2, (uint32_t)payload_len);
+    put_number(out + 8, 4, 0);
+    memcpy(out + BLOCK, payload, payload_len);
+    memset(out + BLOCK + payload_len, 0, PAYLOAD - payload_len);
+    fill_list(ENCIPHERING, first_key, first_key_len, rounds, scratch);
+    run_list(scratch, rounds, out, link);
+    chain(scratch, rounds, link, out + BLOCK, PAYLOAD);
+    fill_list(ENCIPHERING, second_key, second_key_len, rounds, scratch);
+    make_check(scratch, rounds, out, link);
+    memcpy(out + CHECKED, link, CHECK);
+    memset(scratch, 0, SCRATCH);
+    return DONE;
+}
+
+/*
+ * A block of a page from 1 on, deciphered. What it was added to is the block
+ * before it, or the start for the first.
+ */
+static inline void undo_block(const uint8_t *list, uint32_t rounds,
+                              const uint8_t start[BLOCK], const uint8_t *page,
+                              size_t at, uint8_t out[BLOCK])
+{
+    run_list(list, rounds, page + at, out);
+    add_block(out, at == BLOCK ? start : page + at - BLOCK);
+}
+
+/* Whether all bytes of the payload from a place on are zero. */
+static bool is_zero_from(const uint8_t *list, uint32_t rounds,
+                         const uint8_t start[BLOCK], const uint8_t *page,
+                         size_t place)
+{
+    size_t skip = place % BLOCK;
+    uint8_t plain[BLOCK], rest = 0;
+
+    for (size_t at = BLOCK + place - skip; at < CHECKED; at += BLOCK) {
+        undo_block(list, rounds, start, page, at, plain);
+        for (size_t i = skip; i < BLOCK; i++)
+            rest |= plain[i];
+        skip = 0;
+    }
+    return rest == 0;
+}
+
+/* The part of opening that needs the lists: 0, 13 or 11. */
+static uint32_t open_checked(const uint8_t *first_key,
+                             const uint8_t *second_key, size_t key_len,
+                             uint32_t rounds, const uint8_t *page,
+                             uint8_t *scratch, uint8_t *out)
+{
+    uint8_t start[BLOCK], check[BLOCK];
+
+    fill_list(ENCIPHERING, second_key, key_len, rounds, scratch);
+    make_check(scratch, rounds, page, check);
+    if (memcmp(check, page + CHECKED, CHECK) != 0)
+        return OTHER_CHECK;
+    fill_list(ENCIPHERING, first_key, key_len, rounds, scratch);
+    run_list(scratch, rounds, page, start);
+    fill_list(DECIPHERING, first_key, key_len, rounds, scratch);
+    if (!is_zero_from(scratch, rounds, start, page, number(page + 6, 2)))
+        return NOT_A_PAGE;
+    for (size_t at = BLOCK; at < CHECKED; at += BLOCK)
+        undo_block(scratch, rounds, start, page, at, out + at - BLOCK);
+    return DONE;
+}
+
+static uint64_t open_page(const uint8_t *first_key, size_t first_key_len,
+                          const uint8_t *second_key, size_t second_key_len,
+                          uint32_t rounds,
+                          const uint8_t *page, size_t page_len,
+                          uint8_t *scratch, size_t scratch_len,
+                          uint8_t *out, size_t out_len)
+{
+    uint32_t refusal = check_page_keys(first_key, first_key_len, second_key,
+                                       second_key_len, rounds);
+
+    if (refusal != DONE)
+        return refusal;
+    if (scratch_len < SCRATCH || out_len < PAYLOAD)
+        return OUTPUT_TOO_SHORT;
+    if (page_len != PAGE || number(page + 6, 2) > PAYLOAD
+        || number(page + 8, 4) != 0)
+        return NOT_A_PAGE;
+    refusal = open_checked(first_key, second_key, first_key_len, rounds, page,
+                           scratch, out);
+    memset(scratch, 0, SCRATCH);
+    if (refusal != DONE)
+        return refusal;
+    return UINT64_C(1) << 63 | (uint64_t)number(page + 6, 2) << 48
+           | (uint64_t)number(page + 4, 2) << 32 | number(page, 4);
+}
+
 const struct baseline BASELINE = {
     .encipher = encipher,
     .decipher = decipher,
@@ -239,5 +411,7 @@ const struct baseline BASELINE = {
     .prepare_deciphering = prepare_deciphering,
     .run = run,
     .check = check,
-    .check_queue = check_queue
+    .check_queue = check_queue,
+    .seal_page = seal_page,
+    .open_page = open_page
 };

@@ -5,22 +5,29 @@
  * repository says what is promised and what is not.
  *
  * Rules for every call:
- *  - Bytes are lent as a pointer and a length. The pointer is never null, also where the length is 0, and points to at
- *    least as many bytes as the length says. The library keeps no pointer after the call.
- *  - What a call writes to (out, answers, the roll that it enters or withdraws on, or the holder that it steps or walks) overlaps
- *    nothing else that is lent to it. What it only reads may overlap.
+ *  - Bytes are lent as a pointer and a length. The pointer is never null, also where the length is 0, as that of an empty payload
+ *    is, and points to at least as many bytes as the length says. The library keeps no pointer after the call.
+ *  - What a call writes to (out, answers, scratch, the roll that it enters or withdraws on, or the holder that it steps or walks)
+ *    overlaps nothing else that is lent to it, and so out and scratch do not overlap each other. What it only reads may overlap.
  *  - A call takes any lengths and numbers. Where they are wrong, it refuses with a number and writes nothing. Where more than
- *    one reason holds, it gives the first in the order that stands with the call.
- *  - Every call but gordzila_check and gordzila_holder_walk returns 0 where it does not refuse. These two never return 0: a refusal
- *    is 1 to 24, and any other answer 1000 or more. gordzila_check_queue returns 0 whether or not a grant of its queue opens; that
- *    stands in answers.
+ *    one reason holds, it gives the first in the order that stands with the call. In one case a refusal writes: gordzila_open_page
+ *    clears its scratch where it refuses with 13, or with the 11 that it tries after 13.
+ *  - Every call but gordzila_check, gordzila_holder_walk and gordzila_open_page returns 0 where it does not refuse. These three never
+ *    return 0: a refusal is 1 to 24, and any other answer 1000 or more; that of gordzila_open_page is 2^63 or more, and takes 64 bits.
+ *    gordzila_check_queue returns 0 whether or not a grant of its queue opens; that stands in answers.
  *  - Where it does not refuse, it writes the bytes that are said below, from the start of out or answers, and no byte after them;
- *    entering and withdrawing write the roll's 400 bytes, steps and walks the holder's 26.
+ *    entering and withdrawing write the roll's 400 bytes, steps and walks the holder's 26, sealing and opening a page also clear the
+ *    first 576 bytes of scratch.
  *  - A withdrawal is seen only on the roll on which it was made. Hand gordzila_check and gordzila_check_queue the roll as it is now:
  *    on an older copy, or on a roll that starts anew from zeros, grants that were revoked may open.
  *  - The calls have no state of their own and may be made from any thread. While a call writes to bytes, no other call may have
  *    them lent: rooms or threads that share a roll make their calls on it one after the other.
  *  - Their time depends on the key and the data: they are not made to resist an observer of time.
+ *
+ * Changes in 0.5.0, for hosts that were written for 0.4:
+ *  - gordzila_seal_page and gordzila_open_page are new: they seal up to 492 bytes of a size block in a page of 512, and open it.
+ *  - Reasons 11, 12 and 13 are new, and only these two calls give them. Reason 1 has their keys too, and 4 their scratch.
+ *  - No other call changed, and no constant its name or number.
  *
  * Changes in 0.4.0, for hosts that were written for 0.3:
  *  - gordzila_check_queue is new: it checks 0 to 64 grants for one size block in one call. A box that checks them one by one may go
@@ -49,22 +56,25 @@ extern "C" {
 /* Reasons for which a call refuses. */
 enum {
     /* found in the input */
-    GORDZILA_KEY_LENGTH = 1,       /* key not 12, 18 or 24 bytes */
-    GORDZILA_ROUND_COUNT = 2,      /* round count not 10..11, 14..17 or 18..23, by the key's length */
-    GORDZILA_INPUT_LENGTH = 3,     /* block or grant not 12 bytes; roll not 400 bytes; queue of grants over 768 bytes, or no multiple of 12 */
-    GORDZILA_OUTPUT_TOO_SHORT = 4, /* out shorter than what is to be written; answers shorter than the number of grants */
-    GORDZILA_STAGE_OR_LIST = 5,    /* stage number not below the key's length in bytes; subkey list under 132 bytes, over 288, or no multiple of 12 */
-    GORDZILA_CONTRACTOR = 6,       /* contractor outside 1 to 200 */
-    GORDZILA_RIGHT = 7,            /* right neither 1 nor 2 */
-    GORDZILA_NOT_A_GRANT = 8,      /* the deciphered bytes have a wrong mark, contractor or right */
-    GORDZILA_OTHER_BLOCK = 9,      /* grant for another size block */
-    GORDZILA_OTHER_RIGHT = 10,     /* overwriting asked of a reading grant */
+    GORDZILA_KEY_LENGTH = 1,        /* key not 12, 18 or 24 bytes; two keys for a page that are equal or of unequal lengths */
+    GORDZILA_ROUND_COUNT = 2,       /* round count not 10..11, 14..17 or 18..23, by the key's length */
+    GORDZILA_INPUT_LENGTH = 3,      /* block or grant not 12 bytes; roll not 400 bytes; queue of grants over 768 bytes, or no multiple of 12 */
+    GORDZILA_OUTPUT_TOO_SHORT = 4,  /* out shorter than what is to be written; answers shorter than the number of grants; scratch under 576 bytes */
+    GORDZILA_STAGE_OR_LIST = 5,     /* stage number not below the key's length in bytes; subkey list under 132 bytes, over 288, or no multiple of 12 */
+    GORDZILA_CONTRACTOR = 6,        /* contractor outside 1 to 200 */
+    GORDZILA_RIGHT = 7,             /* right neither 1 nor 2 */
+    GORDZILA_NOT_A_GRANT = 8,       /* the deciphered bytes have a wrong mark, contractor or right */
+    GORDZILA_OTHER_BLOCK = 9,       /* grant for another size block */
+    GORDZILA_OTHER_RIGHT = 10,      /* overwriting asked of a reading grant */
+    GORDZILA_NOT_A_PAGE = 11,       /* page not 512 bytes; used count over 492; bytes 8 to 11, or unused payload bytes, not zero */
+    GORDZILA_PAYLOAD_TOO_LONG = 12, /* payload over 492 bytes */
+    GORDZILA_CHECK_DIFFERS = 13,    /* the page's check differs */
     /* found in the state */
-    GORDZILA_NOT_IN_STANDING = 20, /* contractor not in standing */
-    GORDZILA_IN_STANDING = 21,     /* entering someone in standing */
-    GORDZILA_COUNT_SPENT = 22,     /* entering at count 65,534 or 65,535 */
-    GORDZILA_OTHER_COUNT = 23,     /* the grant's count differs from the roll's */
-    GORDZILA_BROKEN_HOLDER = 24    /* holder not 26 bytes, or not whole: a wrong key length, a stage number that is not below it, or bytes past it */
+    GORDZILA_NOT_IN_STANDING = 20,  /* contractor not in standing */
+    GORDZILA_IN_STANDING = 21,      /* entering someone in standing */
+    GORDZILA_COUNT_SPENT = 22,      /* entering at count 65,534 or 65,535 */
+    GORDZILA_OTHER_COUNT = 23,      /* the grant's count differs from the roll's */
+    GORDZILA_BROKEN_HOLDER = 24     /* holder not 26 bytes, or not whole: a wrong key length, a stage number that is not below it, or bytes past it */
 };
 
 /*
@@ -77,6 +87,7 @@ enum { GORDZILA_READING = 1, GORDZILA_OVERWRITING = 2 };
 enum { GORDZILA_BLOCK_BYTES = 12, GORDZILA_GRANT_BYTES = 12, GORDZILA_ROLL_BYTES = 400 };
 enum { GORDZILA_STAGE_BYTES = 24, GORDZILA_SUBKEY_BYTES = 12, GORDZILA_LONGEST_LIST_BYTES = 288 };
 enum { GORDZILA_HOLDER_BYTES = 26 };
+enum { GORDZILA_PAGE_BYTES = 512, GORDZILA_PAYLOAD_BYTES = 492, GORDZILA_SCRATCH_BYTES = 576 };
 
 /* The longest queue, in grants and in bytes. */
 enum { GORDZILA_QUEUE_MOST_GRANTS = 64, GORDZILA_LONGEST_QUEUE_BYTES = 768 };
@@ -148,6 +159,75 @@ uint32_t gordzila_withdraw(uint8_t *roll, size_t roll_length, uint32_t contracto
  */
 uint32_t gordzila_issue(const uint8_t *key, size_t key_length, uint32_t rounds, const uint8_t *roll, size_t roll_length,
                         uint32_t contractor, uint32_t size_block, uint32_t right, uint8_t *out, size_t out_length);
+
+/*
+ * Sealed pages: up to 492 bytes of a size block, enciphered and with a check, in a page of 512 bytes.
+ *
+ * A page has, with numbers big end first: the size block's number (4 bytes), the page number (2), the used count (2), which is the
+ * payload's length, and 4 zeros; 492 bytes of payload with unused bytes zero, enciphered; and the check (8). The first 12 bytes stay
+ * plain: anyone can read them.
+ *
+ * The payload is enciphered under the first key, in 41 blocks of 12 bytes: each is added (exclusive or) to the enciphered block
+ * before it and then enciphered, and the first is added to the 12 plain bytes enciphered under that key. The check is the first 8
+ * bytes of the last block of the same chaining under the second key, from zeros, over bytes 0 to 503 as they are stored.
+ *
+ * first_key, second_key: two different keys of one length, with one round count.
+ *
+ * scratch: at least 576 bytes, of any content, in which the calls keep their subkey lists while they work. These are as secret as the
+ * keys. After a page was sealed or opened, after 13 and after the 11 that is tried after 13, the first 576 bytes are zero, and any
+ * beyond keep their content. After every other refusal all bytes keep their content. Nothing is said of what the calls leave on the
+ * stack. Calls that are made at the same time need a scratch each.
+ *
+ * Stack: of the outcomes tried, the most that a call took is 512 bytes (sealing) and 592 (opening), with the return address and without
+ * the arguments (painted by `make stack`, x86-64, this version's archive).
+ *
+ * Beware:
+ *  - Neither call works in place: out may share no byte with payload or with page. Besides scratch, sealing needs 512 bytes beside the
+ *    payload, and opening 492 beside the page, also on a host with little memory.
+ *  - A page is not bound to its place. gordzila_open_page is not told which page is wanted: it answers the size block and the page
+ *    number that the page was sealed with, and the host has to compare them with those that it wanted. An older page with the same
+ *    numbers opens too. That pages are missing, or stand in another order, is not noticed.
+ *  - Nothing in a page is drawn at random: the same payload with the same numbers under the same keys and round count gives the same
+ *    page, so that whoever sees two pages sees whether they are equal. Where the 12 plain bytes are the same and the payloads start
+ *    alike, the pages start alike, as far as whole blocks of 12 bytes are equal.
+ *  - The payload is enciphered under the first key alone, and the check made under the second alone. With the right second key and
+ *    another first key, a page whose 492 bytes are all used opens, to bytes that nobody sealed; any other page is then refused with
+ *    the 11 that is tried after 13, unless its unused bytes happen to become zeros. Take a pair of keys for pages and for nothing
+ *    else, make neither key from the other, and keep the two apart from each other and from the pages.
+ *  - What is proved is what the calls answer and write. That nobody without the keys can read a payload, or make a page that opens, is
+ *    not.
+ *
+ * Seals a page: 512 bytes to out. The payload has 0 to 492 bytes, of any content. Returns 0, or the number of the first reason that
+ * holds. Order: 1 (also where the keys are equal or of unequal lengths), 2, 4 (scratch under 576 or out under 512), 12.
+ */
+uint32_t gordzila_seal_page(const uint8_t *first_key, size_t first_key_length, const uint8_t *second_key, size_t second_key_length,
+                            uint32_t rounds, uint32_t size_block, uint16_t page_number, const uint8_t *payload,
+                            size_t payload_length, uint8_t *scratch, size_t scratch_length, uint8_t *out, size_t out_length);
+
+/*
+ * Opens a page: all 492 bytes of the payload to out, with zeros past those that are used. Opening what was sealed, under the same keys
+ * and round count, gives the payload, the size block and the page number again.
+ *
+ * Returns the number of the first of these reasons that holds: 1 (also where the keys are equal or of unequal lengths), 2,
+ * 4 (scratch under 576 or out under 492), 11 (page not 512 bytes, used count over 492, or bytes 8 to 11 not zero), 13, and then 11
+ * again (unused payload bytes not zero). Where it refuses, out keeps what stood there, also after 13. A used count that was changed
+ * to another one of 492 or less is left to the check: 13.
+ *
+ * Otherwise the answer is 2^63 + 2^48 * used + 2^32 * page number + size block. It takes 64 bits: cut to 32, as gordzila_opens would
+ * cut it, it would be the size block alone, and size block 0, 13 or 1007 would look like other answers. The readers below take it whole.
+ */
+uint64_t gordzila_open_page(const uint8_t *first_key, size_t first_key_length, const uint8_t *second_key, size_t second_key_length,
+                            uint32_t rounds, const uint8_t *page, size_t page_length, uint8_t *scratch, size_t scratch_length,
+                            uint8_t *out, size_t out_length);
+
+/* Of an answer of gordzila_open_page: whether the page opens, and the number with which it is refused; 0 where it opens. */
+static inline int gordzila_page_opens(uint64_t answer) { return answer >> 63 == 1; }
+static inline uint32_t gordzila_page_refusal(uint64_t answer) { return gordzila_page_opens(answer) ? 0 : (uint32_t)answer; }
+
+/* And what the page was sealed with: the size block, the page number, and how many bytes of the payload are used; 0 where it is refused. */
+static inline uint32_t gordzila_opened_size_block(uint64_t answer) { return gordzila_page_opens(answer) ? (uint32_t)answer : 0; }
+static inline uint16_t gordzila_opened_page_number(uint64_t answer) { return gordzila_page_opens(answer) ? (uint16_t)(answer >> 32) : 0; }
+static inline uint16_t gordzila_opened_used(uint64_t answer) { return gordzila_page_opens(answer) ? (uint16_t)(answer >> 48 & 32767) : 0; }
 
 /*
  * The cipher. Each returns 0, or the number of the first reason that holds.

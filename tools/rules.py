@@ -22,8 +22,18 @@ def orders():
         if line and not line.startswith("#"):
             name, by_value, _ = (part.strip() for part in line.split("|"))
             if by_value != "-":
-                found[name] = [int(number) for number in by_value.split()]
+                numbers = [int(number) for number in by_value.split()]
+                found[name] = [late(n) if n in numbers[:place] else n for place, n in enumerate(numbers)]
     return found
+
+
+def late(number):
+    """A reason that is tried a second time, after another: 11 after 13."""
+    return f"late {number}"
+
+
+def number_of(reason):
+    return int(str(reason).removeprefix("late "))
 
 
 ORDERS = orders()
@@ -31,9 +41,9 @@ ORDERS = orders()
 
 def first(call, holds):
     """The number of the first of a call's reasons that holds, or 0; holds says of each of them whether it does."""
-    if sorted(ORDERS[call]) != sorted(holds):
+    if {*ORDERS[call]} != {*holds}:
         raise ValueError(f"{call} has the reasons {ORDERS[call]} in tools/orders.txt, and {[*holds]} here")
-    return next((number for number in ORDERS[call] if holds[number]), 0)
+    return next((number_of(reason) for reason in ORDERS[call] if holds[reason]), 0)
 
 
 def on_roll(contractor):
@@ -78,11 +88,11 @@ def rows(right, reasons, faults, limits):
     if set(faults) != set(reasons(**right)) or any(reasons(**right).values()):
         raise ValueError(f"faults for {[*faults]}, and in the right row {reasons(**right)}")
     chosen = [right]
-    for reason in sorted(faults):
+    for reason in sorted(faults, key=number_of):
         chosen.append({**right, **faults[reason]})
         if not reasons(**chosen[-1])[reason]:
             raise ValueError(f"the fault for {reason} does not make it hold")
-    for one, other in itertools.combinations(sorted(faults), 2):
+    for one, other in itertools.combinations(sorted(faults, key=number_of), 2):
         both = {**right, **faults[one], **faults[other]}
         held = reasons(**both)
         if held[one] and held[other]:

@@ -22,6 +22,8 @@ CALLS = {
     "issuing": ["issue"],
     "checking": ["check"],
     "queue": ["check"],
+    "sealing": ["seal"],
+    "opening": ["open"],
 }
 
 # A function: what stands before its name on the line, its name, the words of its contract's clauses, the comment above it, and its signature

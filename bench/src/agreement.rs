@@ -1,6 +1,7 @@
 //! The comparison of the implementations, before anything is timed.
 
 mod checks;
+mod pages;
 mod queues;
 mod refusals;
 
@@ -11,7 +12,7 @@ use curupira_reference::matrix::{Matrix, State};
 use curupira_reference::schedule::round_subkeys;
 
 use crate::interface::{baselines, Interface, LIBRARY};
-use crate::others;
+use crate::others::{self, Other, PAGE_BYTES};
 
 const SEED: u64 = 1;
 
@@ -46,6 +47,7 @@ pub fn check() -> Result<(), String> {
     let refusals = refusals::check(&mut generator)?;
     let (grants, opened) = checks::check(&mut generator)?;
     let (queues, queued, opening) = queues::check(&mut generator)?;
+    let (sheets, opening_pages) = pages::check(&mut generator)?;
     let ciphers = check_others(&mut generator)?;
     println!("agreement of the library and all C baselines on");
     print_tally("keys and blocks", &keys);
@@ -54,6 +56,8 @@ pub fn check() -> Result<(), String> {
     print_tally(&format!("grants, of which {opened} open"), &grants);
     let answered = format!("queues, with {queued} grants, of which {opening} open");
     print_tally(&answered, &queues);
+    let sealed = format!("calls on pages, in which {opening_pages} pages open");
+    print_tally(&sealed, &sheets);
     if ciphers > 0 {
         println!("each cipher of libtomcrypt undoes what it does, and passes its own test");
     }
@@ -132,8 +136,24 @@ fn check_others(generator: &mut Generator) -> Result<usize, String> {
             cipher.decipher(&enciphered, &mut deciphered);
             same(&cipher.name, "undone", &block, &deciphered)?;
         }
+        check_other_page(cipher, generator)?;
     }
     Ok(ciphers.len())
+}
+
+/// A page of a cipher of libtomcrypt, opened as it is and with a byte changed.
+fn check_other_page(cipher: &Other, generator: &mut Generator) -> Result<(), String> {
+    let page = [(); PAGE_BYTES].map(|()| generator.byte());
+    let (mut sealed, mut opened) = ([0; 528], [0; PAGE_BYTES]);
+    let numbers = [
+        cipher.seal(&page, &mut sealed),
+        cipher.open(&sealed, &mut opened),
+    ];
+    same(&cipher.name, "sealed and opened", &[0, 0], &numbers)?;
+    same(&cipher.name, "undone", &page, &opened)?;
+    sealed[100] ^= 1;
+    let refused = cipher.open(&sealed, &mut opened) != 0;
+    same(&cipher.name, "a page changed", &true, &refused)
 }
 
 /// The answers of all calls to one key and block: enciphering, deciphering, the

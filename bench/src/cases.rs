@@ -9,7 +9,8 @@ use curupira_reference::matrix::{Matrix, State};
 use curupira_reference::schedule::round_subkeys;
 
 use crate::interface::{baselines, Interface, LIBRARY};
-use crate::others::{self, Other};
+use crate::others::{self, Other, SealedPage};
+use crate::page::{Page, PAGE_BYTES, PAYLOAD_BYTES, SCRATCH_BYTES};
 use crate::question::Question;
 
 const SEED: u64 = 2007;
@@ -28,6 +29,9 @@ const INDEPENDENT_CALLS: usize = 2;
 const QUEUE_GRANTS: usize = 64;
 const QUEUE_CALLS: usize = CALLS / QUEUE_GRANTS;
 
+/// The calls with a page in one sample. A page is 84 blocks or more.
+const PAGE_CALLS: usize = 4;
+
 /// The name of the row that has the library's single checks of the grants of a queue.
 pub const SINGLES: &str = "library, 64 single checks";
 
@@ -44,10 +48,15 @@ pub enum Operation {
     Queue,
     PrepareEnciphering,
     PrepareDeciphering,
+    /// A page with a payload of 492 bytes, and with none.
+    SealFull,
+    SealEmpty,
+    OpenFull,
+    OpenEmpty,
 }
 
 impl Operation {
-    pub const ALL: [Operation; 8] = [
+    pub const ALL: [Operation; 12] = [
         Operation::RunEnciphering,
         Operation::Encipher,
         Operation::RunDeciphering,
@@ -56,6 +65,18 @@ impl Operation {
         Operation::Queue,
         Operation::PrepareEnciphering,
         Operation::PrepareDeciphering,
+        Operation::SealFull,
+        Operation::SealEmpty,
+        Operation::OpenFull,
+        Operation::OpenEmpty,
+    ];
+
+    /// The operations on pages.
+    pub const ON_PAGES: [Operation; 4] = [
+        Operation::SealFull,
+        Operation::SealEmpty,
+        Operation::OpenFull,
+        Operation::OpenEmpty,
     ];
 
     /// The two lines above its column.
@@ -69,6 +90,33 @@ impl Operation {
             Operation::Queue => ["queue", "64"],
             Operation::PrepareEnciphering => ["prepare", "encipher"],
             Operation::PrepareDeciphering => ["prepare", "decipher"],
+            Operation::SealFull => ["seal", "492"],
+            Operation::SealEmpty => ["seal", "0"],
+            Operation::OpenFull => ["open", "492"],
+            Operation::OpenEmpty => ["open", "0"],
+        }
+    }
+
+    /// The column.
+    pub fn column(self) -> usize {
+        let found = Operation::ALL.iter().position(|&one| one == self);
+        found.expect("every operation has a column")
+    }
+
+    /// The calls in one sample.
+    fn calls(self) -> usize {
+        match self {
+            Operation::Queue => QUEUE_CALLS,
+            _ if Operation::ON_PAGES.contains(&self) => PAGE_CALLS,
+            _ => CALLS,
+        }
+    }
+
+    /// The bytes that a call of the library works on.
+    fn bytes(self) -> usize {
+        match Operation::ON_PAGES.contains(&self) {
+            true => PAGE_BYTES,
+            false => BLOCK_BYTES,
         }
     }
 }
@@ -95,7 +143,7 @@ pub const SIZES: [Size; 2] = [
 /// One implementation of one operation.
 pub struct Contender {
     pub name: String,
-    /// The bytes that a call works on, where that is not the library's block.
+    /// The bytes that a call works on.
     pub block_bytes: usize,
     /// The calls in one sample.
     pub calls: usize,
@@ -103,11 +151,12 @@ pub struct Contender {
 }
 
 impl Contender {
-    fn new(name: &str, calls: usize, batch: Batch) -> Self {
+    /// One that works on as many bytes as the library.
+    fn new(name: &str, operation: Operation, batch: Batch) -> Self {
         Contender {
             name: name.to_string(),
-            block_bytes: BLOCK_BYTES,
-            calls,
+            block_bytes: operation.bytes(),
+            calls: operation.calls(),
             batch,
         }
     }
@@ -123,26 +172,30 @@ struct Inputs {
     block: Vec<u8>,
     question: Question,
     queue: Question,
+    /// A payload that fills a page, and one of no bytes.
+    full: Page,
+    empty: Page,
 }
 
 /// All implementations of an operation, in the order of the table's rows. The
 /// library is the first; other ciphers, which have some operations only, are last.
 pub fn contenders(operation: Operation, size: Size) -> Vec<Contender> {
     let inputs = draw_inputs(size);
-    let calls = match operation {
-        Operation::Queue => QUEUE_CALLS,
-        _ => CALLS,
+    let c = |name, interface| {
+        let batch = c_batch(interface, operation, &inputs);
+        Contender::new(name, operation, batch)
     };
-    let c = |name, interface| Contender::new(name, calls, c_batch(interface, operation, &inputs));
     let mut all = vec![c("library", LIBRARY)];
     all.extend(baselines().iter().map(|one| c(one.name, one.interface)));
-    all.push(match operation {
-        Operation::Queue => Contender::new(SINGLES, calls, singles(LIBRARY, inputs.queue)),
-        _ => {
-            let batch = independent_batch(operation, &inputs).expect("the size is allowed");
-            Contender::new("independent Rust", INDEPENDENT_CALLS, batch)
-        }
-    });
+    let independent = independent_batch(operation, &inputs).expect("the size is allowed");
+    all.extend(independent.map(|batch| Contender {
+        calls: INDEPENDENT_CALLS,
+        ..Contender::new("independent Rust", operation, batch)
+    }));
+    if operation == Operation::Queue {
+        let batch = singles(LIBRARY, inputs.queue);
+        all.push(Contender::new(SINGLES, operation, batch));
+    }
     let others = others::ciphers(size.key_length);
     all.extend(others.into_iter().filter_map(|one| other(one, operation)));
     all
@@ -162,6 +215,8 @@ fn draw_inputs(size: Size) -> Inputs {
         block: generator.bytes(BLOCK_BYTES),
         question,
         queue,
+        full: Page::to_seal(&mut generator, key_length, rounds, PAYLOAD_BYTES),
+        empty: Page::to_seal(&mut generator, key_length, rounds, 0),
     }
 }
 
@@ -192,7 +247,31 @@ fn c_batch(interface: Interface, operation: Operation, inputs: &Inputs) -> Batch
         Operation::PrepareDeciphering => repeat(move || {
             interface.prepare_deciphering(black_box(&key), rounds, black_box(&mut list))
         }),
+        Operation::SealFull => c_seal(interface, inputs.full.clone()),
+        Operation::SealEmpty => c_seal(interface, inputs.empty.clone()),
+        Operation::OpenFull => c_open(interface, inputs.full.sealed()),
+        Operation::OpenEmpty => c_open(interface, inputs.empty.sealed()),
     }
+}
+
+/// A payload that is sealed.
+fn c_seal(interface: Interface, page: Page) -> Batch {
+    let (mut scratch, mut out) = ([0; SCRATCH_BYTES], [0; PAGE_BYTES]);
+    assert_eq!(interface.seal_page(&page, &mut scratch, &mut out), 0);
+    repeat(move || {
+        let (scratch, out) = (black_box(&mut scratch), black_box(&mut out));
+        interface.seal_page(black_box(&page), scratch, out)
+    })
+}
+
+/// A page that opens.
+fn c_open(interface: Interface, page: Page) -> Batch {
+    let (mut scratch, mut out) = ([0; SCRATCH_BYTES], [0; PAYLOAD_BYTES]);
+    assert!(interface.open_page(&page, &mut scratch, &mut out) >= 1 << 63);
+    repeat(move || {
+        let (scratch, out) = (black_box(&mut scratch), black_box(&mut out));
+        interface.open_page(black_box(&page), scratch, out)
+    })
 }
 
 /// The engine over a list, whichever direction it is for.
@@ -218,12 +297,12 @@ fn singles(interface: Interface, queue: Question) -> Batch {
 }
 
 /// The independent program. It is not timed on a queue, where it checks the grants one
-/// by one.
-fn independent_batch(operation: Operation, inputs: &Inputs) -> Result<Batch, Error> {
+/// by one, nor on a page, where it does block by block what it does in other columns.
+fn independent_batch(operation: Operation, inputs: &Inputs) -> Result<Option<Batch>, Error> {
     let question = inputs.question.clone();
     let block = inputs.block.clone();
     let (key, rounds) = (question.key.clone(), question.rounds as usize);
-    Ok(match operation {
+    Ok(Some(match operation {
         Operation::RunEnciphering => independent_run(round_subkeys(&key, rounds)?, &block)?,
         Operation::RunDeciphering => {
             independent_run(decryption_keys(&round_subkeys(&key, rounds)?)?, &block)?
@@ -238,12 +317,12 @@ fn independent_batch(operation: Operation, inputs: &Inputs) -> Result<Batch, Err
             let roll = question.independent_roll().expect("the roll is one");
             repeat(move || black_box(&question).independent_answer(black_box(&roll)))
         }
-        Operation::Queue => unreachable!("the independent program is not timed on a queue"),
         Operation::PrepareEnciphering => repeat(move || round_subkeys(black_box(&key), rounds)),
         Operation::PrepareDeciphering => repeat(move || {
             round_subkeys(black_box(&key), rounds).and_then(|subkeys| decryption_keys(&subkeys))
         }),
-    })
+        _ => return Ok(None),
+    }))
 }
 
 /// The independent program's engine over a list.
@@ -257,23 +336,41 @@ fn independent_run(subkeys: Vec<State>, block: &[u8]) -> Result<Batch, Error> {
 /// A cipher of libtomcrypt, if it is timed for this operation.
 fn other(other: Other, operation: Operation) -> Option<Contender> {
     let name = format!("{}, {}-byte block", other.name, other.block_bytes);
-    let block_bytes = other.block_bytes;
-    let block = Generator::new(SEED).bytes(block_bytes);
-    let batch = match operation {
-        Operation::RunEnciphering => chain(block, move |block, out| {
-            black_box(&other).encipher(block, out)
-        }),
-        Operation::RunDeciphering => chain(block, move |block, out| {
-            black_box(&other).decipher(block, out)
-        }),
-        _ => return None,
+    let block_bytes = match Operation::ON_PAGES.contains(&operation) {
+        true => PAGE_BYTES,
+        false => other.block_bytes,
     };
+    let batch = other_batch(other, operation)?;
     Some(Contender {
         name,
         block_bytes,
-        calls: CALLS,
+        calls: operation.calls(),
         batch,
     })
+}
+
+/// It stands in the columns for prepared lists, and, if it is Khazad or AES, in those for
+/// a full page.
+fn other_batch(other: Other, operation: Operation) -> Option<Batch> {
+    let block = Generator::new(SEED).bytes(other.block_bytes);
+    let of_pages = other.name.starts_with("Khazad") || other.name.starts_with("AES");
+    let (mut page, mut sealed): ([u8; PAGE_BYTES], SealedPage) = ([7; PAGE_BYTES], [0; 528]);
+    assert_eq!(other.seal(&page, &mut sealed), 0);
+    match operation {
+        Operation::RunEnciphering => Some(chain(block, move |block, out| {
+            black_box(&other).encipher(block, out)
+        })),
+        Operation::RunDeciphering => Some(chain(block, move |block, out| {
+            black_box(&other).decipher(block, out)
+        })),
+        Operation::SealFull if of_pages => Some(repeat(move || {
+            black_box(&other).seal(black_box(&page), black_box(&mut sealed))
+        })),
+        Operation::OpenFull if of_pages => Some(repeat(move || {
+            black_box(&other).open(black_box(&sealed), black_box(&mut page))
+        })),
+        _ => None,
+    }
 }
 
 /// A batch in which the block that comes out of a call goes into the next one. It is

@@ -1,6 +1,7 @@
 //! The C interface that the library and the C baselines share. All are called
 //! through the same function pointers, so that a call costs the same.
 
+use crate::page::Page;
 use crate::question::Question;
 
 type CipherCall =
@@ -36,8 +37,38 @@ type QueueCall = unsafe extern "C" fn(
     usize,
 ) -> u32;
 
-/// The seven calls, in the order of `struct baseline` in baseline.h. Each answers 0,
-/// or the number of a refusal, or, for a check that opens, 1000 or more.
+type SealCall = unsafe extern "C" fn(
+    *const u8,
+    usize,
+    *const u8,
+    usize,
+    u32,
+    u32,
+    u16,
+    *const u8,
+    usize,
+    *mut u8,
+    usize,
+    *mut u8,
+    usize,
+) -> u32;
+
+type OpenCall = unsafe extern "C" fn(
+    *const u8,
+    usize,
+    *const u8,
+    usize,
+    u32,
+    *const u8,
+    usize,
+    *mut u8,
+    usize,
+    *mut u8,
+    usize,
+) -> u64;
+
+/// The nine calls, in the order of `struct baseline` in baseline.h. Each answers 0,
+/// or the number of a refusal, or, for a check or a page that opens, 1000 or more.
 #[repr(C)]
 #[derive(Clone, Copy)]
 pub struct Interface {
@@ -48,6 +79,8 @@ pub struct Interface {
     run: RunCall,
     check: CheckCall,
     check_queue: QueueCall,
+    seal_page: SealCall,
+    open_page: OpenCall,
 }
 
 extern "C" {
@@ -115,6 +148,34 @@ extern "C" {
         answers: *mut u8,
         answers_length: usize,
     ) -> u32;
+    fn gordzila_seal_page(
+        first_key: *const u8,
+        first_key_length: usize,
+        second_key: *const u8,
+        second_key_length: usize,
+        rounds: u32,
+        size_block: u32,
+        page_number: u16,
+        payload: *const u8,
+        payload_length: usize,
+        scratch: *mut u8,
+        scratch_length: usize,
+        out: *mut u8,
+        out_length: usize,
+    ) -> u32;
+    fn gordzila_open_page(
+        first_key: *const u8,
+        first_key_length: usize,
+        second_key: *const u8,
+        second_key_length: usize,
+        rounds: u32,
+        page: *const u8,
+        page_length: usize,
+        scratch: *mut u8,
+        scratch_length: usize,
+        out: *mut u8,
+        out_length: usize,
+    ) -> u64;
 }
 
 pub const LIBRARY: Interface = Interface {
@@ -125,6 +186,8 @@ pub const LIBRARY: Interface = Interface {
     run: gordzila_run,
     check: gordzila_check,
     check_queue: gordzila_check_queue,
+    seal_page: gordzila_seal_page,
+    open_page: gordzila_open_page,
 };
 
 // What the C files give out, once for every compiler and set of flags.
@@ -242,6 +305,48 @@ impl Interface {
                 question.right,
                 answers.as_mut_ptr(),
                 answers.len(),
+            )
+        }
+    }
+
+    /// The page of a payload.
+    #[inline(always)]
+    pub fn seal_page(&self, page: &Page, scratch: &mut [u8], out: &mut [u8]) -> u32 {
+        unsafe {
+            (self.seal_page)(
+                page.first_key.as_ptr(),
+                page.first_key.len(),
+                page.second_key.as_ptr(),
+                page.second_key.len(),
+                page.rounds,
+                page.size_block,
+                page.page_number,
+                page.bytes.as_ptr(),
+                page.bytes.len(),
+                scratch.as_mut_ptr(),
+                scratch.len(),
+                out.as_mut_ptr(),
+                out.len(),
+            )
+        }
+    }
+
+    /// The payload of a page.
+    #[inline(always)]
+    pub fn open_page(&self, page: &Page, scratch: &mut [u8], out: &mut [u8]) -> u64 {
+        unsafe {
+            (self.open_page)(
+                page.first_key.as_ptr(),
+                page.first_key.len(),
+                page.second_key.as_ptr(),
+                page.second_key.len(),
+                page.rounds,
+                page.bytes.as_ptr(),
+                page.bytes.len(),
+                scratch.as_mut_ptr(),
+                scratch.len(),
+                out.as_mut_ptr(),
+                out.len(),
             )
         }
     }

@@ -8,6 +8,7 @@ mod agreement;
 mod cases;
 mod interface;
 mod others;
+mod page;
 mod question;
 mod table;
 mod timing;

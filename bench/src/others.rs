@@ -12,6 +12,15 @@ pub struct SymmetricKey {
 
 type BlockCall = unsafe extern "C" fn(*const u8, *mut u8, *mut SymmetricKey) -> c_int;
 
+type PageCall = unsafe extern "C" fn(c_int, *const u8, usize, *const u8, *mut u8) -> c_int;
+
+/// The bytes of a page, and the most that its OMAC has, as in others.h.
+pub const PAGE_BYTES: usize = 512;
+const LONGEST_MAC: usize = 16;
+
+/// A page with room for its OMAC.
+pub type SealedPage = [u8; PAGE_BYTES + LONGEST_MAC];
+
 #[cfg(bench_tomcrypt)]
 extern "C" {
     fn others_version() -> *const std::ffi::c_char;
@@ -21,6 +30,21 @@ extern "C" {
     fn others_passes(which: u32) -> c_int;
     fn others_encipher(which: u32) -> BlockCall;
     fn others_decipher(which: u32) -> BlockCall;
+    fn others_register(which: u32) -> c_int;
+    fn others_seal(
+        registered: c_int,
+        keys: *const u8,
+        key_length: usize,
+        page: *const u8,
+        out: *mut u8,
+    ) -> c_int;
+    fn others_open(
+        registered: c_int,
+        keys: *const u8,
+        key_length: usize,
+        page: *const u8,
+        out: *mut u8,
+    ) -> c_int;
 }
 
 /// A cipher with a prepared key.
@@ -33,6 +57,12 @@ pub struct Other {
     prepared: *mut SymmetricKey,
     encipher: BlockCall,
     decipher: BlockCall,
+    /// The number under which libtomcrypt has the cipher for its modes.
+    registered: c_int,
+    /// The two keys for a page, one after the other.
+    keys: Vec<u8>,
+    seal: PageCall,
+    open: PageCall,
 }
 
 impl Other {
@@ -51,6 +81,27 @@ impl Other {
     fn call(&self, call: BlockCall, block: &[u8], out: &mut [u8]) -> c_int {
         assert!(block.len() == self.block_bytes && out.len() == self.block_bytes);
         unsafe { call(block.as_ptr(), out.as_mut_ptr(), self.prepared) }
+    }
+
+    /// A page in CBC mode, and its OMAC under another key.
+    #[inline(always)]
+    pub fn seal(&self, page: &[u8; PAGE_BYTES], out: &mut SealedPage) -> c_int {
+        self.call_page(self.seal, page, out)
+    }
+
+    /// The same undone, if the OMAC is right.
+    #[inline(always)]
+    pub fn open(&self, page: &SealedPage, out: &mut [u8; PAGE_BYTES]) -> c_int {
+        self.call_page(self.open, page, out)
+    }
+
+    // A sealed page is read or written with its OMAC, another without; both have their
+    // lengths by their types. The keys are two of the same length.
+    #[inline(always)]
+    fn call_page(&self, call: PageCall, page: &[u8], out: &mut [u8]) -> c_int {
+        let (keys, key_length) = (self.keys.as_ptr(), self.keys.len() / 2);
+        let (page, out) = (page.as_ptr(), out.as_mut_ptr());
+        unsafe { call(self.registered, keys, key_length, page, out) }
     }
 }
 
@@ -88,7 +139,8 @@ pub fn ciphers(_key_length: usize) -> Vec<Other> {
 
 #[cfg(bench_tomcrypt)]
 fn prepare(name: &str, which: u32, key_length: usize) -> Other {
-    let key = curupira_reference::generator::Generator::new(1).bytes(key_length);
+    let keys = curupira_reference::generator::Generator::new(1).bytes(2 * key_length);
+    let key = &keys[..key_length];
     // The number is one of four, and the key is lent with its length.
     unsafe {
         let prepared = others_prepare(which, key.as_ptr(), key.len());
@@ -101,6 +153,10 @@ fn prepare(name: &str, which: u32, key_length: usize) -> Other {
             prepared,
             encipher: others_encipher(which),
             decipher: others_decipher(which),
+            registered: others_register(which),
+            keys,
+            seal: others_seal,
+            open: others_open,
         }
     }
 }

@@ -32,6 +32,7 @@ pub fn print(samples: usize) {
         print_ratios("library's time / this time, medians", &rows, |t| t.median);
         print_ratios("library's time / this time, least", &rows, |t| t.least);
         print_queue(&rows);
+        print_pages(&rows);
     }
 }
 
@@ -95,20 +96,47 @@ fn print_ratios(title: &str, rows: &[Row], time: impl Fn(&Times) -> f64) {
 /// The ratios of a queue for which there is a target, with the target. They stand in
 /// the ratios above too.
 fn print_queue(rows: &[Row]) {
-    let column = Operation::ALL
-        .iter()
-        .position(|&one| one == Operation::Queue);
-    let column = column.expect("a queue is an operation");
-    let times = |row: &Row| row.cells[column].as_ref().map(|cell| cell.times);
-    let own = times(&rows[0]).expect("the library is timed");
     println!("the library's queue of 64 / this, by medians and by least times, and the target");
     for (name, target) in [(SINGLES, "0.6"), (PLAIN, "1.0")] {
-        let row = rows.iter().find(|row| row.name == name);
-        let other = row.and_then(times).expect("what has a target is timed");
-        let ratios = [own.median / other.median, own.least / other.least].map(ratio);
-        let cells = ratios.into_iter().chain([format!("<= {target}")]);
-        print_line(&format!("  {name}"), cells);
+        print_target(name, rows, Operation::Queue, name, target);
     }
+}
+
+/// The same of pages, and, for scale, the time for each byte of a full page.
+fn print_pages(rows: &[Row]) {
+    println!("the library's page / plain C's, by medians and by least times, and the target");
+    for operation in Operation::ON_PAGES {
+        let [call, payload] = operation.heading();
+        let title = format!("{call}, {payload} bytes of payload");
+        print_target(&title, rows, operation, PLAIN, "1.0");
+    }
+    println!("nanoseconds for each of the 512 bytes of a full page, medians: seal, open");
+    let full = [Operation::SealFull, Operation::OpenFull];
+    for row in rows {
+        let cells = full.map(|operation| row.cells[operation.column()].as_ref());
+        if let [Some(seal), Some(open)] = cells {
+            let each = [seal, open].map(|cell| cell.times.median / cell.block_bytes as f64);
+            print_line(
+                &format!("  {}", row.name),
+                each.map(|time| format!("{time:.1}")),
+            );
+        }
+    }
+}
+
+/// A line with the library's time divided by that of the row of a name, and the target.
+fn print_target(title: &str, rows: &[Row], operation: Operation, name: &str, target: &str) {
+    let times = |row: &Row| {
+        row.cells[operation.column()]
+            .as_ref()
+            .map(|cell| cell.times)
+    };
+    let own = times(&rows[0]).expect("the library is timed");
+    let row = rows.iter().find(|row| row.name == name);
+    let other = row.and_then(times).expect("what has a target is timed");
+    let ratios = [own.median / other.median, own.least / other.least].map(ratio);
+    let cells = ratios.into_iter().chain([format!("<= {target}")]);
+    print_line(&format!("  {title}"), cells);
 }
 
 /// A ratio, with as many places as say something.

@@ -1,8 +1,8 @@
 /*
- * Lends every buffer of every call, but of those on a key holder (holder_bounds.c) and of the queue (queue_bounds.c), between two
- * pages that may not be touched: once right after the first, once right before the second (guard.h). Lengths and numbers lie on
- * both sides of each limit; the answer has to be the first reason in the header's order that holds (rules.h), and nothing may
- * change but what a call that does not refuse writes.
+ * Lends every buffer of every call, but of those on a key holder (holder_bounds.c), of the queue (queue_bounds.c) and of sealed pages
+ * (page_bounds.c), between two pages that may not be touched: once right after the first, once right before the second (guard.h).
+ * Lengths and numbers lie on both sides of each limit; the answer has to be the first reason in the header's order that holds
+ * (rules.h), and nothing may change but what a call that does not refuse writes.
  *
  * Of each of 11 keys with each of 13 round counts there are 25 lengths of input and output for 2 directions, 3 outputs for 2 lists, and
  * 100 issues (5 rights, 4 rolls, 5 outputs) with 5 checks each: 143 * 656. Of the 6 of these pairs that are right there are 5 grants

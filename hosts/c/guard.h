@@ -1,5 +1,5 @@
 /*
- * What the tests share. A buffer is lent between two pages that may not be touched: so that it ends where the second begins, or
+ * What the tests share. A buffer is lent between two pages of memory that may not be touched: so that it ends where the second begins, or
  * so that it begins where the first ends. A read or a write beside it stops the program. What stood in it is compared after the
  * call.
  *
@@ -68,10 +68,10 @@ static inline int changed(const struct lent *l, size_t from) {
     return l->length > from && memcmp(l->at + from, l->before + from, l->length - from) != 0;
 }
 
-static inline int refused(uint32_t answer) { return answer >= 1 && answer < 1000; }
+static inline int refused(uint64_t answer) { return answer >= 1 && answer < 1000; }
 
 /* Whether a call changed a byte that it may not: where it does not refuse, it may have written so many bytes of its output. */
-static inline int changed_beside(uint32_t answer, const struct lent *output, size_t written) {
+static inline int changed_beside(uint64_t answer, const struct lent *output, size_t written) {
     int found = 0;
     for (size_t i = 0; i < room_count; i++) {
         found |= changed(rooms[i], rooms[i] == output && !refused(answer) ? written : 0);
@@ -80,7 +80,7 @@ static inline int changed_beside(uint32_t answer, const struct lent *output, siz
 }
 
 /* A call answered, and more may be wrong with it. What stands in the buffers now is what the next call finds there. */
-static inline void count(const char *call, uint32_t got, uint32_t expected, int wrong) {
+static inline void count(const char *call, uint64_t got, uint64_t expected, int wrong) {
     for (size_t i = 0; i < room_count; i++) {
         if (rooms[i]->length > 0) {
             memcpy(rooms[i]->before, rooms[i]->at, rooms[i]->length);
@@ -88,14 +88,15 @@ static inline void count(const char *call, uint32_t got, uint32_t expected, int 
     }
     if (got != expected || wrong) {
         differed++;
-        printf("%s: got %u, expected %u%s\n", call, (unsigned)got, (unsigned)expected, wrong ? ", and more is wrong" : "");
+        printf("%s: got %llu, expected %llu%s\n", call, (unsigned long long)got, (unsigned long long)expected,
+               wrong ? ", and more is wrong" : "");
     } else {
         agreed++;
     }
 }
 
 /* A call answered whose output may have any bytes. */
-static inline void judge(const char *call, uint32_t got, uint32_t expected, const struct lent *output, size_t written) {
+static inline void judge(const char *call, uint64_t got, uint64_t expected, const struct lent *output, size_t written) {
     count(call, got, expected, changed_beside(got, output, written));
 }
 

@@ -2,7 +2,8 @@
  * A plotter's day and the next morning, in small. The store enters a contractor and issues an overwriting grant; a plotter box caches it
  * and checks it against the roll as it is now: before it looks at the size block, and before it overwrites it. The contractor is
  * withdrawn, and the cached grant stops opening, also after a new standing. With a reading grant the contractor may then look, but not
- * overwrite. Next morning the box checks its pile of cached grants in one call. Prints a line for each step.
+ * overwrite. Next morning the box checks its pile of cached grants in one call. Once a grant opens the size block for overwriting, a page
+ * of it is sealed; once one opens it for reading, the page is opened. Prints a line for each step.
  */
 #include <stdio.h>
 #include <string.h>
@@ -13,6 +14,10 @@
 static const uint8_t key[12] = {0xc6, 0x7e, 0x81, 0x6b, 0x4b, 0xfb, 0xe2, 0xfb, 0x54, 0xf6, 0xbd, 0xdf};
 static const uint32_t rounds = 10;
 
+/* The two keys of the maker's pages, which are used for nothing else. */
+static const uint8_t first_key[12] = {0x3d, 0x91, 0x0a, 0xe4, 0x57, 0xc8, 0x26, 0x7b, 0xf0, 0x1e, 0x99, 0x42};
+static const uint8_t second_key[12] = {0xa8, 0x14, 0xd3, 0x6f, 0x2c, 0x05, 0xb9, 0xe1, 0x78, 0x4a, 0x93, 0x5e};
+
 static const char *reason(uint32_t number) {
     switch (number) {
     case GORDZILA_NOT_A_GRANT:
@@ -21,6 +26,12 @@ static const char *reason(uint32_t number) {
         return "grant for another size block";
     case GORDZILA_OTHER_RIGHT:
         return "overwriting asked of a reading grant";
+    case GORDZILA_NOT_A_PAGE:
+        return "not a page";
+    case GORDZILA_PAYLOAD_TOO_LONG:
+        return "too much for a page";
+    case GORDZILA_CHECK_DIFFERS:
+        return "page changed, or sealed with another second key or round count";
     case GORDZILA_NOT_IN_STANDING:
         return "contractor not in standing";
     case GORDZILA_IN_STANDING:
@@ -46,9 +57,12 @@ static void done(const char *what, uint32_t contractor, uint32_t number) {
 
 static const char *verb(uint32_t right) { return right == GORDZILA_READING ? "read" : "overwrite"; }
 
-/* The plotter's question: may this size block be read, or overwritten? Where the grant opens, the answer has the right asked for. */
-static void may(uint32_t right, const uint8_t roll[GORDZILA_ROLL_BYTES], const uint8_t grant[GORDZILA_GRANT_BYTES],
-                uint32_t size_block) {
+/*
+ * The plotter's question: may this size block be read, or overwritten? Says so. Where the grant opens, the answer has the right asked
+ * for.
+ */
+static int may(uint32_t right, const uint8_t roll[GORDZILA_ROLL_BYTES], const uint8_t grant[GORDZILA_GRANT_BYTES],
+               uint32_t size_block) {
     uint32_t answer = gordzila_check(key, sizeof key, rounds, roll, GORDZILA_ROLL_BYTES, grant, GORDZILA_GRANT_BYTES,
                                      size_block, right);
     if (gordzila_opens(answer)) {
@@ -57,6 +71,7 @@ static void may(uint32_t right, const uint8_t roll[GORDZILA_ROLL_BYTES], const u
     } else {
         printf("%s size block %u: refused with %u, %s\n", verb(right), (unsigned)size_block, (unsigned)answer, reason(answer));
     }
+    return gordzila_opens(answer);
 }
 
 /* The pile of cached grants, one after the other as the queue takes them, and its length in bytes. */
@@ -93,6 +108,38 @@ static void may_with_pile(uint32_t right, const uint8_t roll[GORDZILA_ROLL_BYTES
     }
 }
 
+/* A page of a size block that was opened for overwriting. Whatever the call answers, no subkey is left in the scratch. */
+static void seal(uint8_t page[GORDZILA_PAGE_BYTES], uint32_t size_block, uint16_t number, const char *pattern) {
+    uint8_t scratch[GORDZILA_SCRATCH_BYTES];
+    uint32_t refusal = gordzila_seal_page(first_key, sizeof first_key, second_key, sizeof second_key, rounds, size_block, number,
+                                          (const uint8_t *)pattern, strlen(pattern), scratch, sizeof scratch, page,
+                                          GORDZILA_PAGE_BYTES);
+    printf("seal page %u of size block %u: ", (unsigned)number, (unsigned)size_block);
+    if (refusal == 0) {
+        printf("done\n");
+    } else {
+        printf("refused with %u, %s\n", (unsigned)refusal, reason(refusal));
+    }
+}
+
+/* A page that opens says which one it is. Only the box knows which one it wanted, and has to compare. */
+static void look(const uint8_t page[GORDZILA_PAGE_BYTES], uint32_t size_block, uint16_t number) {
+    uint8_t scratch[GORDZILA_SCRATCH_BYTES];
+    uint8_t payload[GORDZILA_PAYLOAD_BYTES];
+    uint64_t answer = gordzila_open_page(first_key, sizeof first_key, second_key, sizeof second_key, rounds, page,
+                                         GORDZILA_PAGE_BYTES, scratch, sizeof scratch, payload, sizeof payload);
+    printf("open page %u of size block %u: ", (unsigned)number, (unsigned)size_block);
+    if (!gordzila_page_opens(answer)) {
+        uint32_t refusal = gordzila_page_refusal(answer);
+        printf("refused with %u, %s\n", (unsigned)refusal, reason(refusal));
+    } else if (gordzila_opened_size_block(answer) != size_block || gordzila_opened_page_number(answer) != number) {
+        printf("it is page %u of size block %u, and not used\n", (unsigned)gordzila_opened_page_number(answer),
+               (unsigned)gordzila_opened_size_block(answer));
+    } else {
+        printf("%.*s\n", (int)gordzila_opened_used(answer), (const char *)payload);
+    }
+}
+
 /* Two grants come into the pile: one that has stopped opening, and one for reading. */
 static void day(uint8_t roll[GORDZILA_ROLL_BYTES], struct pile *pile) {
     uint8_t grant[GORDZILA_GRANT_BYTES] = {0};
@@ -117,8 +164,11 @@ static void day(uint8_t roll[GORDZILA_ROLL_BYTES], struct pile *pile) {
     may(GORDZILA_OVERWRITING, roll, grant, 300);
 }
 
-/* Another contractor's grant comes into the pile, and a copy of it with a damaged byte. Who has it, only the single check says. */
-static void morning(uint8_t roll[GORDZILA_ROLL_BYTES], struct pile *pile) {
+/*
+ * Another contractor's grant comes into the pile, and a copy of it with a damaged byte. Who has it, only the single check says. It opens
+ * the size block for overwriting, and a page of it is sealed.
+ */
+static void morning(uint8_t roll[GORDZILA_ROLL_BYTES], struct pile *pile, uint8_t page[GORDZILA_PAGE_BYTES]) {
     uint8_t grant[GORDZILA_GRANT_BYTES] = {0};
     done("enter", 12, gordzila_enter(roll, GORDZILA_ROLL_BYTES, 12));
     done("issue an overwriting grant to", 12,
@@ -127,15 +177,29 @@ static void morning(uint8_t roll[GORDZILA_ROLL_BYTES], struct pile *pile) {
     grant[0] ^= 1;
     cache(pile, grant);
     may_with_pile(GORDZILA_OVERWRITING, roll, pile, 300);
-    may(GORDZILA_OVERWRITING, roll, pile->grants + 2 * GORDZILA_GRANT_BYTES, 300);
+    if (may(GORDZILA_OVERWRITING, roll, pile->grants + 2 * GORDZILA_GRANT_BYTES, 300)) {
+        seal(page, 300, 4, "front panel, sizes 40 to 46");
+    }
     done("withdraw", 12, gordzila_withdraw(roll, GORDZILA_ROLL_BYTES, 12));
     may_with_pile(GORDZILA_READING, roll, pile, 300);
 }
 
+/* The page is opened with the reading grant: as it was sealed, in the place of the next page, and with a byte changed. */
+static void reading(const uint8_t roll[GORDZILA_ROLL_BYTES], const struct pile *pile, uint8_t page[GORDZILA_PAGE_BYTES]) {
+    if (may(GORDZILA_READING, roll, pile->grants + GORDZILA_GRANT_BYTES, 300)) {
+        look(page, 300, 4);
+        look(page, 300, 5);
+        page[GORDZILA_PAGE_BYTES - 1] ^= 1;
+        look(page, 300, 4);
+    }
+}
+
 int main(void) {
     uint8_t roll[GORDZILA_ROLL_BYTES] = {0};
+    uint8_t page[GORDZILA_PAGE_BYTES] = {0};
     struct pile pile = {{0}, 0};
     day(roll, &pile);
-    morning(roll, &pile);
+    morning(roll, &pile, page);
+    reading(roll, &pile, page);
     return 0;
 }

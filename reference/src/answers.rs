@@ -35,6 +35,7 @@
 //!   later ones.
 //! - `order CALL A B GIVEN`: the number with which a call is refused for which the
 //!   reasons A and B hold, and no reason that comes before A.
+//! - the lines for sealed pages, which stand at the top of `page_answers.rs`.
 //!
 //! A and B are neighbours in the order of the reasons for a call. Some neighbours
 //! have no line:
@@ -64,6 +65,7 @@ use crate::error::Error;
 use crate::grants::{answer_of, number_of};
 use crate::holder::{forward, holder_bytes, walk_to};
 use crate::matrix::Matrix;
+use crate::page_answers::add_page_answers;
 use crate::roll::{
     counts_from_bytes, counts_to_bytes, covers, in_standing, queue_length, Grant, Roll,
     CONTRACTORS, OVERWRITING, READING,
@@ -73,17 +75,17 @@ use crate::schedule::{cipher_key, key_stage, round_subkeys, select};
 use crate::vectors::{add_line, hex, list_hex, matrix_hex, KEY_LENGTHS};
 
 /// The key of 24 bytes. The others are its first 12 and its first 18.
-const KEY: [u8; 24] = [
+pub(crate) const KEY: [u8; 24] = [
     0x0F, 0x1E, 0x2D, 0x3C, 0x4B, 0x5A, 0x69, 0x78, 0x87, 0x96, 0xA5, 0xB4, 0xC3, 0xD2, 0xE1, 0xF0,
     0x01, 0x12, 0x23, 0x34, 0x45, 0x56, 0x67, 0x70,
 ];
 
 /// The length of the key for the list of subkeys and for the calls that are
 /// refused.
-const SHORT: usize = 12;
+pub(crate) const SHORT: usize = 12;
 
 /// The number of rounds with this key.
-const ROUNDS: usize = 10;
+pub(crate) const ROUNDS: usize = 10;
 
 /// The roll in bytes that is read.
 const ROLL_READ: [u8; 8] = [0x01, 0x02, 0x03, 0x04, 0xFF, 0xFE, 0x00, 0x01];
@@ -158,7 +160,7 @@ const QUEUE: [(u16, u16, u32, u8); 4] = [
 ];
 
 /// What the bytes lent for answers have before: no number of an answer.
-const UNWRITTEN: u8 = 0xFF;
+pub(crate) const UNWRITTEN: u8 = 0xFF;
 
 /// The pairs of reasons for a withdrawal.
 const WITHDRAW_PAIRS: [[u8; 2]; 1] = [[6, 20]];
@@ -185,7 +187,7 @@ const QUEUE_PAIRS: [[u8; 2]; 4] = [[1, 2], [2, 3], [3, 4], [4, 7]];
 const CONTRACTOR: u16 = 7;
 
 /// The number of the size block of a call in which nothing is wrong.
-const SIZE_BLOCK: u32 = 300;
+pub(crate) const SIZE_BLOCK: u32 = 300;
 
 /// Everyone's count in the roll of a call in which nothing is wrong.
 const COUNT: u16 = 3;
@@ -217,6 +219,7 @@ pub fn answers_text() -> Result<String, Error> {
     add_order_lines(&mut text, "issue", &ISSUE_PAIRS, issue_with);
     add_order_lines(&mut text, "check", &CHECK_PAIRS, check_with);
     add_order_lines(&mut text, "queue", &QUEUE_PAIRS, queue_with);
+    add_page_answers(&mut text);
     Ok(text)
 }
 
@@ -410,14 +413,19 @@ fn add_walked_lines(text: &mut String) -> Result<(), Error> {
     Ok(())
 }
 
-/// The lines for steps forward on lent bytes. No bytes at all are written as `-`.
+/// Bytes as hexadecimal digits, or `-` if there are none.
+pub(crate) fn hex_or_dash(bytes: &[u8]) -> String {
+    if bytes.is_empty() {
+        String::from("-")
+    } else {
+        hex(bytes)
+    }
+}
+
+/// The lines for steps forward on lent bytes.
 fn add_broken_lines(text: &mut String) -> Result<(), Error> {
     for mut lent in broken_and_whole()? {
-        let digits = if lent.is_empty() {
-            String::from("-")
-        } else {
-            hex(&lent)
-        };
+        let digits = hex_or_dash(&lent);
         let answer = forward(&mut lent).to_string();
         add_line(text, &["broken", &digits, &answer]);
     }
@@ -446,16 +454,25 @@ fn broken_and_whole() -> Result<Vec<Vec<u8>>, Error> {
 }
 
 /// The bytes with the one at a position replaced.
-fn with_byte(bytes: &[u8], position: usize, value: u8) -> Vec<u8> {
+pub(crate) fn with_byte(bytes: &[u8], position: usize, value: u8) -> Vec<u8> {
     let mut changed = bytes.to_vec();
     changed[position] = value;
     changed
 }
 
+/// The word for whether something is so.
+pub(crate) fn yes_or_no(so: bool) -> &'static str {
+    if so {
+        "yes"
+    } else {
+        "no"
+    }
+}
+
 /// The lines for counts with which a contractor is or is not in standing.
 fn add_standing_lines(text: &mut String) {
     for count in COUNTS {
-        let word = if in_standing(count) { "yes" } else { "no" };
+        let word = yes_or_no(in_standing(count));
         add_line(text, &["standing", &count.to_string(), word]);
     }
 }
@@ -463,7 +480,7 @@ fn add_standing_lines(text: &mut String) {
 /// The lines for numbers of bytes that are or are not those of a queue.
 fn add_queued_lines(text: &mut String) {
     for length in QUEUE_LENGTHS {
-        let word = if queue_length(length) { "yes" } else { "no" };
+        let word = yes_or_no(queue_length(length));
         add_line(text, &["queued", &length.to_string(), word]);
     }
 }
@@ -518,7 +535,7 @@ fn queue_answers(grants: &[u8], right: u8) -> [u8; QUEUE.len()] {
 
 /// The lines for the pairs of reasons for one call. `call_with` makes the call with
 /// an input for which the given reasons hold.
-fn add_order_lines(
+pub(crate) fn add_order_lines(
     text: &mut String,
     call: &str,
     pairs: &[[u8; 2]],

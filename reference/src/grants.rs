@@ -23,7 +23,7 @@ use crate::cipher::allowed_rounds;
 use crate::error::Error;
 use crate::generator::Generator;
 use crate::roll::{Accepted, Refusal, Roll};
-use crate::vectors::{add_line, hex, KEY_LENGTHS, SEED};
+use crate::vectors::{add_line, draw_number, hex, KEY_LENGTHS, SEED};
 
 /// How many lives there are for each key length and number of rounds.
 const LIVES_PER_ROUNDS: usize = 4;
@@ -66,14 +66,9 @@ fn draw_life(generator: &mut Generator, key_length: usize, rounds: usize) -> Lif
         key: generator.bytes(key_length),
         rounds,
         contractor: 1 + u16::from(generator.byte() % 200),
-        block: draw_block(generator),
+        block: draw_number(generator, 4),
         right: 1 + generator.byte() % 2,
     }
-}
-
-/// The number of a size block, drawn from the generator big end first.
-fn draw_block(generator: &mut Generator) -> u32 {
-    (0..4).fold(0, |number, _| 256 * number + u32::from(generator.byte()))
 }
 
 /// The lines for one life.

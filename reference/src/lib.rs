@@ -17,6 +17,8 @@ pub mod grants;
 pub mod holder;
 pub mod layers;
 pub mod matrix;
+pub mod page_answers;
+pub mod pages;
 pub mod roll;
 pub mod routes;
 pub mod sbox;

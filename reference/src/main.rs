@@ -1,7 +1,7 @@
 //! Prints vectors of the reference implementation as plain text on standard
 //! output. What each subcommand prints, and the order in which it draws its
-//! inputs, stands at the top of `vectors.rs`, `routes.rs`, `grants.rs` and
-//! `answers.rs` and in README.md.
+//! inputs, stands at the top of `vectors.rs`, `routes.rs`, `grants.rs`,
+//! `answers.rs` and `page_answers.rs` and in README.md.
 
 #![forbid(unsafe_code)]
 
@@ -12,7 +12,7 @@ use std::process::ExitCode;
 use curupira_reference::error::Error;
 use curupira_reference::{answers, grants, routes, vectors};
 
-const USAGE: &str = "usage: reference sbox|layers|rounds|blocks|stages|routes|grants|answers";
+const USAGE: &str = "usage: reference sbox|layers|rounds|blocks|stages|routes|grants|pages|answers";
 
 /// Exit status for bad usage.
 const BAD_USAGE: u8 = 2;
@@ -43,6 +43,7 @@ fn subcommand(arguments: &[OsString]) -> Option<fn() -> Result<String, Error>> {
             "stages" => Some(vectors::stages_text),
             "routes" => Some(routes::routes_text),
             "grants" => Some(grants::grants_text),
+            "pages" => Some(vectors::pages_text),
             "answers" => Some(answers::answers_text),
             _ => None,
         },

@@ -1,6 +1,6 @@
 //! The vectors that the program prints, as plain text; those of `routes` are in
 //! `routes.rs`, those of `grants` in `grants.rs`, and those of `answers` in
-//! `answers.rs`.
+//! `answers.rs` and `page_answers.rs`.
 //!
 //! Every subcommand has a generator of its own that starts from seed 1 and
 //! draws bytes for inputs only, in the order in which they are first printed. A
@@ -20,6 +20,12 @@
 //!   key is all zero and draws nothing, and then it does this 3 times: draw KEY
 //!   (12, 18 or 24 bytes). For every key it prints the lines r = 0 to 6t - 1
 //!   before the next key is drawn.
+//! - `pages` takes key lengths 12, 18, 24 in this order, for each its round counts
+//!   upward (10..11, 14..17, 18..23), and for each of these does this once: draw
+//!   FIRST and then SECOND (12, 18 or 24 bytes each), draw BLOCK (4 bytes, big end
+//!   first), draw NUMBER (2 bytes, big end first), draw two bytes x and y, draw as
+//!   many bytes as USED, which is (256x + y) mod 493, for the payload, print the
+//!   line page. The payload is not printed.
 
 use crate::cipher::{
     allowed_rounds, decrypt, decrypt_with, decryption_keys, encrypt, encrypt_with,
@@ -28,6 +34,7 @@ use crate::error::Error;
 use crate::generator::Generator;
 use crate::layers::{gamma, pi, sigma, theta};
 use crate::matrix::{Matrix, State};
+use crate::pages::{seal, PAGE_LENGTH, PAYLOAD_LENGTH, SCRATCH_LENGTH};
 use crate::sbox;
 use crate::schedule::{cipher_key, psi, select};
 
@@ -56,6 +63,12 @@ pub(crate) fn list_hex(states: &[State]) -> String {
 fn draw_state(generator: &mut Generator) -> State {
     let bytes = generator.bytes(12);
     Matrix::from_rule(|i, j| bytes[i + 3 * j])
+}
+
+/// A number of the given count of bytes, at most 4, drawn from the generator big end
+/// first.
+pub(crate) fn draw_number(generator: &mut Generator, count: usize) -> u32 {
+    (0..count).fold(0, |number, _| 256 * number + u32::from(generator.byte()))
 }
 
 /// Adds a line to a text: the fields, with one space between each two.
@@ -215,4 +228,53 @@ fn add_stage_lines_of<const N: usize>(text: &mut String, key: &[u8]) -> Result<(
         add_line(text, &["stage", &hex(key), &r.to_string(), &stage, &subkey]);
     }
     Ok(())
+}
+
+/// Sealed pages for every key length and every number of rounds in Table 2 (section
+/// 3.9), one each.
+pub fn pages_text() -> Result<String, Error> {
+    let mut generator = Generator::new(SEED);
+    let mut text = String::new();
+    for key_length in KEY_LENGTHS {
+        for rounds in allowed_rounds(key_length)? {
+            add_page_line(&mut text, &mut generator, key_length, rounds);
+        }
+    }
+    Ok(text)
+}
+
+/// The line for a page whose keys, numbers and payload are drawn.
+fn add_page_line(text: &mut String, generator: &mut Generator, key_length: usize, rounds: usize) {
+    let first = generator.bytes(key_length);
+    let second = generator.bytes(key_length);
+    let block = draw_number(generator, 4);
+    let number = draw_number(generator, 2) as u16;
+    let used = draw_number(generator, 2) as usize % (PAYLOAD_LENGTH + 1);
+    let payload = generator.bytes(used);
+    let mut scratch = [0; SCRATCH_LENGTH];
+    let mut page = [0; PAGE_LENGTH];
+    seal(
+        &first,
+        &second,
+        rounds,
+        block,
+        number,
+        &payload,
+        &mut scratch,
+        &mut page,
+    )
+    .expect("the keys differ, and all else is allowed");
+    add_line(
+        text,
+        &[
+            "page",
+            &hex(&first),
+            &hex(&second),
+            &rounds.to_string(),
+            &block.to_string(),
+            &number.to_string(),
+            &used.to_string(),
+            &hex(&page),
+        ],
+    );
 }

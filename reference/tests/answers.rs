@@ -1,6 +1,7 @@
 //! What README.md says about the worked answers. Where an answer can be worked out
 //! by hand, it is written out here. Stages are taken from the closed form of section
-//! 3.7, subkeys from the published S-box, and the turned list has to decipher.
+//! 3.7, subkeys from the published S-box, and the turned list has to decipher. Pages
+//! with toys are taken from a closed form too.
 
 use curupira_reference::answers::{
     answers_text, check_with, issue_with, queue_with, withdraw_with,
@@ -10,6 +11,8 @@ use curupira_reference::generator::Generator;
 use curupira_reference::holder::{back, forward, make, subkey, walk_to};
 use curupira_reference::layers::inverse_theta;
 use curupira_reference::matrix::{Matrix, State};
+use curupira_reference::page_answers::{open_with, seal_with};
+use curupira_reference::pages::{open, page_under, seal};
 use curupira_reference::roll::{counts_from_bytes, counts_to_bytes, Grant, Refusal, Roll};
 use curupira_reference::schedule::{accumulated_constant, cipher_key, omega, omega_power};
 use curupira_reference::vectors::hex;
@@ -104,12 +107,19 @@ fn the_lines_stand_in_the_documented_order() {
         ("queued", 11),
         ("queue", 2),
         ("order", 17),
+        ("chain", 1),
+        ("pair", 9),
+        ("form", 16),
+        ("pagewith", 5),
+        ("altered", 14),
+        ("padded", 19),
+        ("order", 8),
     ];
     let documented = groups
         .iter()
         .flat_map(|(name, count)| vec![Some(*name); *count]);
     assert!(names.eq(documented));
-    assert_eq!(text.lines().count(), 129);
+    assert_eq!(text.lines().count(), 201);
 }
 
 /// The lines that README.md prints.
@@ -774,6 +784,14 @@ fn the_orders_are_as_written_by_hand() {
         "order queue 2 3 2",
         "order queue 3 4 3",
         "order queue 4 7 4",
+        "order seal 1 2 1",
+        "order seal 2 4 2",
+        "order seal 4 12 4",
+        "order open 1 2 1",
+        "order open 2 4 2",
+        "order open 4 11 4",
+        "order open 11 13 11",
+        "order open 13 11 13",
     ];
     assert_eq!(lines_of("order"), written);
 }
@@ -796,6 +814,8 @@ fn each_reason_of_a_pair_holds_by_itself() {
     check_reasons(&[1, 2, 6, 7, 20], issue_with);
     check_reasons(&[1, 2, 3, 7, 8, 9, 10, 20, 23], check_with);
     check_reasons(&[1, 2, 3, 4, 7], queue_with);
+    check_reasons(&[1, 2, 4, 12], seal_with);
+    check_reasons(&[1, 2, 4, 11, 13], open_with);
 }
 
 /// Why there are no lines for enter: no contractor outside 1 to 200 has a count, and
@@ -811,4 +831,367 @@ fn no_two_reasons_for_enter_hold_together() {
         assert_eq!(roll.withdraw(7), Err(Refusal::NotInStanding));
     }
     assert!(lines_of("order enter").is_empty());
+}
+
+/// The page of the line for 13 and 11: size block 300 is hex 12C, page number 7, 17 used
+/// bytes, and a 1 after them. With a right check it is refused with 11, with a wrong one
+/// with 13, so that both reasons hold in that line.
+#[test]
+fn the_last_reason_for_opening_holds_by_itself() {
+    let mut plain = [0; 504];
+    plain[..8].copy_from_slice(&[0, 0, 0x01, 0x2C, 0, 7, 0, 17]);
+    for (i, byte) in plain[12..29].iter_mut().enumerate() {
+        *byte = 7 * i as u8 + 1;
+    }
+    plain[29] = 1;
+    let [first, second] = [KEYS[0], "0f1e2d3c4b5a69788796a5b5"].map(bytes);
+    let mut page = page_under(&first, &second, 10, &plain).expect("two keys");
+    for number in [11, 13] {
+        let opened = open(&first, &second, 10, &page, &mut [0; 576], &mut [0; 492]);
+        assert_eq!(opened.map_err(|refusal| refusal.number()), Err(number));
+        page[511] ^= 1;
+    }
+    assert_eq!(open_with(&[13, 11]), "13");
+}
+
+/// 01 xor 00 is 01, 02 xor 11 is 13, 03 xor 22 is 21, and so on: that is enciphered first.
+/// The turned list deciphers, so it comes to the sums.
+#[test]
+fn the_chain_deciphers_to_sums() {
+    let line = &fields_of("chain")[0];
+    let start = "00112233445566778899aabb";
+    let blocks = "0102030405060708090a0b0c0c0b0a090807060504030201";
+    assert_eq!(line[..5], ["chain", KEYS[0], "10", start, blocks]);
+    let turned = states(&fields_of("turned")[0][3]);
+    let [first, second]: [State; 2] = states(&line[5]).try_into().expect("two blocks");
+    let sum = encrypt_with(&turned, &first).expect("there are subkeys");
+    assert_eq!(hex(&sum.to_bytes()), "011321374153617f8193a1b7");
+    let sum = encrypt_with(&turned, &second).expect("there are subkeys");
+    assert_eq!(hex(&sum.plus(&first).to_bytes()), blocks[24..]);
+}
+
+#[test]
+fn the_pairs_of_keys_are_as_judged_by_hand() {
+    let [short, middle, _] = KEYS;
+    let written = [
+        format!("pair {} {} no", short, short),
+        format!("pair {} 0f1e2d3c4b5a69788796a5b5 yes", short),
+        format!("pair {} 1f1e2d3c4b5a69788796a5b4 yes", short),
+        format!("pair {} {}00 no", short, short),
+        format!("pair {} {} no", short, middle),
+        format!("pair {} {} no", middle, short),
+        format!("pair {} 0f1e2d3c4b5a69788796a5b4c3d2e1f00113 yes", middle),
+        format!("pair {}00 {}01 no", short, short),
+        String::from("pair - - no"),
+    ];
+    assert_eq!(lines_of("pair"), written);
+}
+
+/// The least number of rounds for the length of the first key, which is refused with 1 if
+/// the pair is. A page of no bytes is refused with 11 if the pair is not.
+#[test]
+fn the_pairs_of_keys_show_in_the_calls() {
+    for line in fields_of("pair") {
+        let [first, second] = [1, 2].map(|k| match line[k].as_str() {
+            "-" => Vec::new(),
+            digits => bytes(digits),
+        });
+        let rounds = if first.len() == 18 { 14 } else { 10 };
+        let (mut scratch, mut out) = ([0; 576], [0; 512]);
+        let sealed = seal(&first, &second, rounds, 1, 2, &[3], &mut scratch, &mut out);
+        let opened = open(&first, &second, rounds, &[], &mut scratch, &mut out);
+        let numbers = [
+            sealed.map_or_else(|refusal| refusal.number(), |_| 0),
+            opened.map_or_else(|refusal| refusal.number(), |_| 0),
+        ];
+        let good = line[3] == "yes";
+        assert_eq!(numbers, if good { [0, 11] } else { [1, 1] });
+    }
+}
+
+/// 492 is the greatest used count, and only bytes 8 to 11 have to be zero.
+#[test]
+fn the_forms_are_as_judged_by_hand() {
+    let written = [
+        "form 512 0 0 0 yes",
+        "form 511 0 0 0 no",
+        "form 513 0 0 0 no",
+        "form 0 0 0 0 no",
+        "form 512 1 0 0 yes",
+        "form 512 492 0 0 yes",
+        "form 512 493 0 0 no",
+        "form 512 256 0 0 yes",
+        "form 512 65535 0 0 no",
+        "form 512 0 8 1 no",
+        "form 512 0 9 1 no",
+        "form 512 0 10 1 no",
+        "form 512 0 11 128 no",
+        "form 512 0 12 1 yes",
+        "form 512 0 5 1 yes",
+        "form 512 0 511 1 yes",
+    ];
+    assert_eq!(lines_of("form"), written);
+}
+
+/// Such bytes have no right check. If they have the form of a page, opening comes as far
+/// as that.
+#[test]
+fn the_forms_show_in_the_call() {
+    let [first, second] = [KEYS[0], "0f1e2d3c4b5a69788796a5b5"].map(bytes);
+    for line in fields_of("form") {
+        let [length, count, index, value] = [1, 2, 3, 4].map(|k| number(&line[k]));
+        let mut page = vec![0; length];
+        if length > 0 {
+            page[6] = (count / 256) as u8;
+            page[7] = (count % 256) as u8;
+            page[index] = value as u8;
+        }
+        let opened = open(&first, &second, 10, &page, &mut [0; 576], &mut [0; 492]);
+        let number = if line[5] == "yes" { 13 } else { 11 };
+        assert_eq!(opened.map_err(|refusal| refusal.number()), Err(number));
+    }
+}
+
+/// The constants of the toys in the places of the first and of the second key.
+const TOYS: [&str; 2] = ["a0a1a2a3a4a5a6a7a8a9aaab", "5f4e3d2c1b0a998877665544"];
+
+/// The fields of a line about the page that is altered, up to the used count.
+const TOY_PAGE: &str = "a0a1a2a3a4a5a6a7a8a9aaab 5f4e3d2c1b0a998877665544 16909060 1286";
+
+/// The layer pi on the bytes of a block (section 3.2): byte k becomes byte PI[k]. In row 1
+/// columns 0 and 1 and columns 2 and 3 change places, in row 2 columns 0 and 2 and columns
+/// 1 and 3. So it is undone by itself.
+const PI: [usize; 12] = [0, 4, 8, 3, 1, 11, 6, 10, 2, 9, 7, 5];
+
+/// A block after pi was applied so many times.
+fn moved(block: &[u8], times: usize) -> Vec<u8> {
+    if times % 2 == 0 {
+        block.to_vec()
+    } else {
+        PI.map(|k| block[k]).to_vec()
+    }
+}
+
+/// Adds a block to another.
+fn add_to(sum: &mut [u8], block: &[u8]) {
+    for (byte, other) in sum.iter_mut().zip(block) {
+        *byte ^= other;
+    }
+}
+
+/// Block n of a chain with a toy from zero, in closed form. Block i went through pi n - i + 1
+/// times. The constant that was added after block i went through pi n - i times.
+fn toy_chained(constant: &str, bytes_before: &[u8], n: usize) -> Vec<u8> {
+    let constant = bytes(constant);
+    let mut sum = vec![0; 12];
+    for (i, block) in bytes_before.chunks(12).take(n + 1).enumerate() {
+        add_to(&mut sum, &moved(block, n - i + 1));
+        add_to(&mut sum, &moved(&constant, n - i));
+    }
+    sum
+}
+
+/// The page of plain bytes with the toys. Chained from zero, header and payload together
+/// give the blocks of the payload, because the header enciphered is the first block then.
+fn toy_page(plain: &[u8]) -> Vec<u8> {
+    let mut page = plain[..12].to_vec();
+    for n in 1..42 {
+        page.extend(toy_chained(TOYS[0], plain, n));
+    }
+    let last = toy_chained(TOYS[1], &page, 41);
+    page.extend(&last[..8]);
+    page
+}
+
+/// The plain bytes of a page with these numbers in decimal. Byte i of the payload is 7i + 1.
+fn toy_plain(size_block: &str, page_number: &str, used: &str) -> Vec<u8> {
+    let numbers = [size_block, page_number, used].map(number);
+    let digits = format!("{:08x}{:04x}{:04x}", numbers[0], numbers[1], numbers[2]);
+    let mut plain = bytes(&digits);
+    plain.resize(12, 0);
+    plain.extend((0..numbers[2]).map(|i| (7 * i + 1) as u8));
+    plain.resize(504, 0);
+    plain
+}
+
+/// What opening with the toys answers for a page of 512 bytes.
+fn toy_answer(page: &[u8]) -> usize {
+    let used = 256 * usize::from(page[6]) + usize::from(page[7]);
+    if used > 492 || page[8..12] != [0; 4] {
+        return 11;
+    }
+    if toy_chained(TOYS[1], page, 41)[..8] != page[504..] {
+        return 13;
+    }
+    // Before block n of the payload there is block n - 1, and before block 0 the header,
+    // which has to be enciphered first.
+    let mut previous = toy_chained(TOYS[0], page, 0);
+    let mut payload = Vec::new();
+    for block in page[12..504].chunks(12) {
+        let mut sum = block.to_vec();
+        add_to(&mut sum, &bytes(TOYS[0]));
+        let mut plain = moved(&sum, 1);
+        add_to(&mut plain, &previous);
+        payload.extend(plain);
+        previous = block.to_vec();
+    }
+    if payload[used..].iter().all(|byte| *byte == 0) {
+        0
+    } else {
+        11
+    }
+}
+
+/// Page 0 of size block 0 without a used byte. Let P be pi(A), where A is the constant in
+/// the place of the first key. The header enciphered is A. The stored blocks of the payload
+/// are A + P, P, 0, A, and these again and again, so that the last one, of 41, is A + P. In
+/// the sum for the check, of the blocks that go through pi an even number of times P and A
+/// are there 10 times each; of the others A + P is there 11 times, and pi leaves that as it
+/// is. The constant B went through pi 0, 1, ..., 41 times, so the last block is
+/// A + P + B + pi(B).
+#[test]
+fn an_empty_page_with_toys_is_as_derived_by_hand() {
+    let [constant, check_constant] = TOYS.map(bytes);
+    let p = "a0a4a8a3a1aba6aaa2a9a7a5";
+    assert_eq!(hex(&moved(&constant, 1)), p);
+    let a_and_p = "00050a00050e000d0a000d0e";
+    let b_and_pi_b = "00554a00554e00dd4a00dd4e";
+    let mut sum = moved(&check_constant, 1);
+    add_to(&mut sum, &check_constant);
+    assert_eq!(hex(&sum), b_and_pi_b);
+    let check = "00504000504000d0";
+    let start = ["00".repeat(12).as_str(), a_and_p, p].concat();
+    let end = ["ab", a_and_p, check].concat();
+    let toys = TOYS.join(" ");
+    let line = format!("pagewith {} 0 0 0 {} {}", toys, start, end);
+    assert_eq!(lines_of("pagewith")[1], line);
+}
+
+#[test]
+fn the_pages_with_toys_are_those_of_the_closed_form() {
+    let numbers = [
+        ["16909060", "1286", "17"],
+        ["0", "0", "0"],
+        ["4294967295", "65535", "492"],
+        ["258", "772", "12"],
+        ["1", "1", "491"],
+    ];
+    let mut written = Vec::new();
+    for [block, page_number, used] in numbers {
+        let page = toy_page(&toy_plain(block, page_number, used));
+        assert_eq!(toy_answer(&page), 0);
+        let shown = [&page[..36], &page[491..]].map(hex).join(" ");
+        let toys = TOYS.join(" ");
+        let line = format!(
+            "pagewith {} {} {} {} {}",
+            toys, block, page_number, used, shown
+        );
+        written.push(line);
+    }
+    assert_eq!(lines_of("pagewith"), written);
+}
+
+/// Position, value and answer. The bytes of the page are 01 at 0, 04 at 3, 06 at 5 and 00 11,
+/// which is 17, at 6. Count 273 is a good one, 529 is not. Byte 12 is 0, which is why it
+/// becomes 1. Byte 35 is the last of its block, and so is what it becomes in the last block of
+/// the check, where only the first 8 bytes count; it is an unused byte of the payload.
+const ALTERED: [(usize, u8, usize); 14] = [
+    (0, 1, 0),
+    (0, 2, 13),
+    (3, 5, 13),
+    (5, 7, 13),
+    (6, 1, 13),
+    (6, 2, 11),
+    (7, 16, 13),
+    (8, 1, 11),
+    (11, 255, 11),
+    (12, 1, 13),
+    (35, 0, 11),
+    (503, 0, 13),
+    (504, 0, 13),
+    (511, 0, 13),
+];
+
+#[test]
+fn the_altered_pages_are_answered_as_worked_out_by_hand() {
+    let page = toy_page(&toy_plain("16909060", "1286", "17"));
+    assert_eq!(page[..12], [1, 2, 3, 4, 5, 6, 0, 17, 0, 0, 0, 0]);
+    assert_eq!(page[12], 0);
+    let mut written = Vec::new();
+    for (index, value, answer) in ALTERED {
+        let mut altered = page.clone();
+        altered[index] = value;
+        assert_eq!(altered == page, answer == 0);
+        assert_eq!(toy_answer(&altered), answer, "byte {}", index);
+        let line = format!("altered {} 17 {} {} {}", TOY_PAGE, index, value, answer);
+        written.push(line);
+    }
+    assert_eq!(lines_of("altered"), written);
+}
+
+/// Used count, position in the payload, value and answer. A page opens if the position is
+/// below the used count or the value is zero.
+const PADDED: [(usize, usize, u8, usize); 19] = [
+    (17, 16, 0, 0),
+    (17, 16, 1, 0),
+    (17, 17, 0, 0),
+    (17, 17, 1, 11),
+    (17, 18, 128, 11),
+    (17, 23, 1, 11),
+    (17, 24, 1, 11),
+    (17, 35, 255, 11),
+    (17, 480, 1, 11),
+    (17, 491, 1, 11),
+    (492, 491, 0, 0),
+    (0, 0, 0, 0),
+    (0, 0, 1, 11),
+    (0, 491, 1, 11),
+    (12, 11, 0, 0),
+    (12, 12, 1, 11),
+    (480, 479, 0, 0),
+    (480, 480, 1, 11),
+    (480, 491, 1, 11),
+];
+
+#[test]
+fn the_padded_pages_are_answered_as_worked_out_by_hand() {
+    let mut written = Vec::new();
+    for (used, index, value, answer) in PADDED {
+        let mut plain = toy_plain("16909060", "1286", &used.to_string());
+        plain[12 + index] = value;
+        assert_eq!(toy_answer(&toy_page(&plain)), answer);
+        assert_eq!(answer == 0, index < used || value == 0);
+        let numbers = format!("{} {} {} {}", used, index, value, answer);
+        written.push(format!("padded {} {}", TOY_PAGE, numbers));
+    }
+    assert_eq!(lines_of("padded"), written);
+}
+
+/// The answers to altered and to padded pages stand in README.md in tables of their own.
+#[test]
+fn the_answers_about_pages_are_those_of_the_readme() {
+    let altered =
+        ALTERED.map(|(index, value, answer)| format!("| {} | {} | {} |", index, value, answer));
+    let padded = PADDED.map(|(used, index, value, answer)| {
+        format!("| {} | {} | {} | {} |", used, index, value, answer)
+    });
+    let readme = include_str!("../README.md");
+    assert!(readme.contains(&format!("|\n{}\n\n", altered.join("\n"))));
+    assert!(readme.contains(&format!("|\n{}\n\n", padded.join("\n"))));
+}
+
+/// The lines `chain`, `form` and `order` for pages stand in README.md as they are printed,
+/// and those of `pagewith` in a table without the constants.
+#[test]
+fn the_lines_about_pages_are_those_of_the_readme() {
+    let readme = include_str!("../README.md");
+    let orders = lines_of("order");
+    for lines in [&lines_of("chain")[..], &lines_of("form"), &orders[17..]] {
+        assert!(readme.contains(&format!("    {}\n\n", lines.join("\n    "))));
+    }
+    let rows: Vec<String> = fields_of("pagewith")
+        .iter()
+        .map(|line| format!("| {} |", line[3..].join(" | ")))
+        .collect();
+    assert!(readme.contains(&format!("|\n{}\n\n", rows.join("\n"))));
 }

@@ -4,6 +4,7 @@
 use std::process::{Command, Output};
 
 use curupira_reference::cipher::{decrypt, encrypt};
+use curupira_reference::pages::open;
 
 /// The generator of README.md, starting from x = 1.
 struct Draw {
@@ -63,7 +64,7 @@ fn the_generator_starts_as_documented() {
 
 #[test]
 fn bad_usage_ends_with_status_two() {
-    let wrong: [&[&str]; 7] = [
+    let wrong: [&[&str]; 9] = [
         &[],
         &["other"],
         &[""],
@@ -71,6 +72,8 @@ fn bad_usage_ends_with_status_two() {
         &["sbox", "layers"],
         &["answer"],
         &["answers", "grants"],
+        &["page"],
+        &["pages", "answers"],
     ];
     for arguments in wrong {
         let output = run(arguments);
@@ -242,9 +245,44 @@ fn grants_draws_its_inputs_as_documented() {
     assert!(rest.next().is_none());
 }
 
+#[test]
+fn pages_draws_its_inputs_as_documented() {
+    let mut draw = Draw::new();
+    let printed = lines("pages");
+    assert_eq!(printed.len(), 12);
+    let mut rest = printed.iter();
+    for (key_length, least, greatest) in SIZES {
+        for rounds in least..=greatest {
+            let line = rest.next().expect("there are more lines");
+            let (first, second) = (draw.hex(key_length), draw.hex(key_length));
+            let (block, number) = (draw.hex(4), draw.hex(2));
+            let used = value(&draw.hex(2)) % 493;
+            let [block, number] = [block, number].map(|digits| value(&digits));
+            let numbers = format!("{} {} {} {}", rounds, block, number, used);
+            let inputs = format!("page {} {} {}", first, second, numbers);
+            assert_eq!(line[..7].join(" "), inputs);
+            assert_eq!((line.len(), line[7].len()), (8, 1024));
+            let payload = bytes(&draw.hex(used as usize));
+            let opened = opened(&[&first, &second], rounds, &line[7]);
+            assert_eq!(opened[..payload.len()], payload);
+        }
+    }
+    assert!(rest.next().is_none());
+}
+
+/// The payload of a page, as it is opened.
+fn opened(keys: &[&str; 2], rounds: usize, page: &str) -> Vec<u8> {
+    let [first, second] = keys.map(bytes);
+    let mut payload = vec![0; 492];
+    let page = bytes(page);
+    let header = open(&first, &second, rounds, &page, &mut [0; 576], &mut payload);
+    assert!(header.is_ok());
+    payload
+}
+
 /// The names of the lines of answers, each with how many there are of it and how many
 /// fields they have, the name being one of them.
-const ANSWERS: [(&str, usize, usize); 19] = [
+const ANSWERS: [(&str, usize, usize); 26] = [
     ("limits", 3, 4),
     ("roll", 1, 6),
     ("rollbytes", 1, 6),
@@ -264,6 +302,13 @@ const ANSWERS: [(&str, usize, usize); 19] = [
     ("queued", 11, 3),
     ("queue", 2, 11),
     ("order", 17, 5),
+    ("chain", 1, 6),
+    ("pair", 9, 4),
+    ("form", 16, 6),
+    ("pagewith", 5, 8),
+    ("altered", 14, 9),
+    ("padded", 19, 9),
+    ("order", 8, 5),
 ];
 
 #[test]

@@ -1,4 +1,4 @@
--- The halves of a test that passed, and two numbers in order.
+-- The halves of a test that passed, tests joined one after the other, and two numbers in order.
 use mathlib.Core.Path.{_≡_, refl}
 use mathlib.Core.Logic.{_⊎_, inl, inr}
 use Prim.Native.Nat.{ℕ, zero, suc, _≤_, _<_}
@@ -12,6 +12,17 @@ and-first false b e = e
 pub and-second : (a b : Bool) → (a && b) ≡ true → b ≡ true
 and-second true b e = e
 and-second false b e = absurd (false≢true e)
+
+-- a test joined to those before it, in a loop: it is made next and put first
+pub and-turned : (p q r : Bool) → (p && (q && r)) ≡ ((q && p) && r)
+and-turned true true r = refl
+and-turned true false r = refl
+and-turned false true r = refl
+and-turned false false r = refl
+
+pub and-true : (c : Bool) → (c && true) ≡ c
+and-true true = refl
+and-true false = refl
 
 pub below-or-not : (a b : ℕ) → (a < b) ⊎ (b ≤ a)
 below-or-not a zero = inr (omega arith)

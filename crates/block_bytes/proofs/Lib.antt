@@ -1,4 +1,5 @@
 pub mod Put
+pub mod Blockwise
 pub mod Lists
 pub mod RoundTrip
 pub mod Lemmas

@@ -1,11 +1,14 @@
 -- States and subkey lists as bytes, and back.
-use mathlib.Core.Path.{_≡_, refl, sym, ap, _∙_}
+use mathlib.Core.Path.{_≡_, refl, sym, ap, ap₂, _∙_, subst}
+use mathlib.Core.Logic.{inl, inr}
 use mathlib.Core.List.{List, [], _∷_, _++_, append-assoc, append-nil}
-use Prim.Native.Nat.{ℕ, zero, suc, _+_, _*_, _<_}
-use native.Mathlib.Nat.{not-suc-le-zero, le-of-suc-le-suc, add-zero}
+use Prim.Native.Nat.{ℕ, zero, suc, _+_, _*_, _/_, _≤_, _<_}
+use native.Mathlib.Nat.{not-suc-le-zero, le-of-suc-le-suc, add-zero, zero-add}
 use native.Mathlib.Omega.{arith}
-use lib.ListN.{length, getD, take, drop, length-append}
-use lib.Seq.{ext-getD, take-at, drop-append-add}
+use lib.Dec.{lit<}
+use lib.ListN.{length, getD, take, drop, length-append, length-take, length-drop, List·getD-eq-default}
+use lib.Seq.{ext-getD, take-at, take-all, take-add, length-take-le, getD-take, getD-drop, drop-nil, drop-append-add}
+use Rattle.basics.proofs.Tests.{below-or-not}
 use Rattle.layers.specs.State.{State, IsState, built}
 use Rattle.rounds.specs.Rounds.{listedFrom, AllStates}
 use Rattle.block_bytes.specs.Blocks.{stateOf, bytesOf, listStates, listBytes}
@@ -52,6 +55,14 @@ unfolding listBytes
 bytes-snoc [] k = append-nil (bytesOf k)
 bytes-snoc (x ∷ ks) k = ap (λ (l : List ℕ). bytesOf x ++ l) (bytes-snoc ks k) ∙ sym (append-assoc (bytesOf x) (listBytes ks) (bytesOf k))
 
+pub bytes-drop : (ks : List State) (k : ℕ) → drop (12 * k) (listBytes ks) ≡ listBytes (drop k ks)
+unfolding listBytes
+bytes-drop ks zero = refl
+bytes-drop [] (suc k) = drop-nil (12 * suc k)
+bytes-drop (x ∷ ks) (suc k) =
+    let n : 12 * suc k ≡ 12 + 12 * k = omega arith in
+    ap (λ (m : ℕ). drop m (bytesOf x ++ listBytes ks)) n ∙ drop-append-add (bytesOf x) (listBytes ks) (12 * k) ∙ bytes-drop ks k
+
 -- the twelve bytes of subkey r
 bytes-at : (ks : List State) (r : ℕ) → r < length ks → take 12 (drop (12 * r) (listBytes ks)) ≡ bytesOf (getD ks r [])
 unfolding listBytes
@@ -84,3 +95,34 @@ pub listed-states : (r n : ℕ) (f : ℕ → State) → ((s : ℕ) → IsState (
 unfolding listedFrom
 listed-states r zero f h = tt
 listed-states r (suc n) f h = (h r, listed-states (suc r) n f h)
+
+-- a part of bytes is bytes
+pub part-bytes : (n m : ℕ) (xs : List ℕ) → AreBytes xs → AreBytes (take n (drop m xs))
+part-bytes n m xs h i = elim (below-or-not i n) [
+  | inl l ↦ subst (λ (x : ℕ). x < 256) (sym (getD-take n (drop m xs) i 0 l ∙ getD-drop m xs i 0)) (h (m + i))
+  | inr g ↦ subst (λ (x : ℕ). x < 256) (sym (List·getD-eq-default (take n (drop m xs)) 0 (omega (arith, length-take n (drop m xs))))) (lit< tt)
+]
+
+pub list-states : (list : List ℕ) → AreBytes list → AllStates (listStates list)
+unfolding listStates
+list-states list h = listed-states 0 (length list / 12) (λ r. stateOf (take 12 (drop (12 * r) list)))
+    (λ r. block-state (take 12 (drop (12 * r) list)) (part-bytes 12 (12 * r) list h))
+
+-- ---- whole blocks as states, and back
+first-blocks : (bytes : List ℕ) (k : ℕ) → 12 * k ≤ length bytes
+    → listBytes (listedFrom 0 k (λ r. stateOf (take 12 (drop (12 * r) bytes)))) ≡ take (12 * k) bytes
+unfolding listBytes listedFrom
+first-blocks bytes zero h = refl
+first-blocks bytes (suc k) h =
+    let block : ℕ → List ℕ = λ r. take 12 (drop (12 * r) bytes) in
+    let l : length (block k) ≡ 12 = length-take-le 12 (drop (12 * k) bytes) (omega (arith, length-drop (12 * k) bytes)) in
+    let n : 12 * k + 12 ≡ 12 * suc k = omega arith in
+    ap listBytes (listed-snoc 0 k (λ r. stateOf (block r)) ∙ ap (λ (m : ℕ). listedFrom 0 k (λ r. stateOf (block r)) ++ (stateOf (block m) ∷ [])) (zero-add k))
+    ∙ bytes-snoc (listedFrom 0 k (λ r. stateOf (block r))) (stateOf (block k))
+    ∙ ap₂ _++_ (first-blocks bytes k (omega arith)) (bytes-state (block k) l)
+    ∙ sym (take-add (12 * k) 12 bytes) ∙ ap (λ (m : ℕ). take m bytes) n
+
+pub states-list : (bytes : List ℕ) (n : ℕ) → length bytes ≡ 12 * n → listBytes (listStates bytes) ≡ bytes
+unfolding listStates
+states-list bytes n e =
+    first-blocks bytes (length bytes / 12) (omega arith) ∙ take-all (12 * (length bytes / 12)) bytes (omega arith)

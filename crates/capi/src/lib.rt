@@ -1,5 +1,6 @@
 // The C interface: the calls over numbers and byte slices. A slice is a pointer and a length. Each answers 0, or the number of the reason
-// for which it refuses; where it does not refuse, the check answers with contractor and the right asked for, and a walk with its steps and direction.
+// for which it refuses; where it does not refuse, the check answers with contractor and the right asked for, a walk with its steps and direction,
+// and the opening of a page with the header's numbers.
 
 ghost use mathlib.Core.Path.{_≡_};
 ghost use Rattle.engine.specs.Engine.{engineNumber, engineOutput};
@@ -10,6 +11,9 @@ ghost use Rattle.check_call.specs.CheckCall.{callCode};
 ghost use Rattle.queue_call.specs.QueueCall.{callQueueNumber, callQueueOutput};
 ghost use Rattle.roll_calls.specs.RollCalls.{enterCallNumber, enterCallRoll, withdrawCallNumber, withdrawCallRoll};
 ghost use Rattle.issue_call.specs.IssueCall.{issueCallNumber, issueCallOutput};
+ghost use Rattle.sealing.specs.Sealing.{sealNumber, sealOutput, sealScratch};
+ghost use Rattle.opening.specs.Opening.{openOutput, openScratch};
+ghost use Rattle.open_call.specs.OpenCall.{openCallCode};
 ghost use Rattle.stage_calls.specs.StageCalls.{stageCallNumber, stageCallOutput, subkeyCallOutput};
 ghost use Rattle.holder.specs.declared.Way.the-variants.{Forward, Back};
 ghost use Rattle.holder_calls.specs.HolderCalls.{makeCallNumber, makeCallOutput, stepCallNumber, stepCallHolder};
@@ -93,6 +97,59 @@ pub extern "C" fn gordzila_check_queue(
         (now (answers .entry)) ⌝ }
 {
     queue_call::check(key, rounds, roll, grants, size_block, right, answers)
+}
+
+// Seals a page: 512 bytes to the output.
+#[no_mangle]
+pub extern "C" fn gordzila_seal_page(
+    first_key: &[u8],
+    second_key: &[u8],
+    rounds: u32,
+    size_block: u32,
+    page_number: u16,
+    payload: &[u8],
+    scratch: &mut [u8],
+    out: &mut [u8],
+) -> u32
+    ensures { λ r. ⌜ r ≡ sealNumber (now («first_key» .entry)) (now («second_key» .entry)) rounds (now (payload .entry)) (now (scratch .entry))
+        (now (out .entry)) ⌝ }
+    ensures { λ _. ⌜ now (out .exit)
+        ≡ sealOutput (now («first_key» .entry)) (now («second_key» .entry)) rounds «size_block» «page_number» (now (payload .entry))
+        (now (scratch .entry)) (now (out .entry)) ⌝ }
+    ensures { λ _. ⌜ now (scratch .exit)
+        ≡ sealScratch (now («first_key» .entry)) (now («second_key» .entry)) rounds (now (payload .entry)) (now (scratch .entry))
+        (now (out .entry)) ⌝ }
+{
+    refusal::outcome_number(sealing::seal(
+        first_key,
+        second_key,
+        rounds,
+        size_block,
+        page_number,
+        payload,
+        scratch,
+        out,
+    ))
+}
+
+// Opens a page: the refusal number, or the header's numbers with the top bit set; and the payload's 492 bytes to the output.
+#[no_mangle]
+pub extern "C" fn gordzila_open_page(
+    first_key: &[u8],
+    second_key: &[u8],
+    rounds: u32,
+    page: &[u8],
+    scratch: &mut [u8],
+    out: &mut [u8],
+) -> u64
+    ensures { λ r. ⌜ r ≡ openCallCode (now («first_key» .entry)) (now («second_key» .entry)) rounds (now (page .entry)) (now (scratch .entry))
+        (now (out .entry)) ⌝ }
+    ensures { λ _. ⌜ now (out .exit)
+        ≡ openOutput (now («first_key» .entry)) (now («second_key» .entry)) rounds (now (page .entry)) (now (scratch .entry)) (now (out .entry)) ⌝ }
+    ensures { λ _. ⌜ now (scratch .exit)
+        ≡ openScratch (now («first_key» .entry)) (now («second_key» .entry)) rounds (now (page .entry)) (now (scratch .entry)) (now (out .entry)) ⌝ }
+{
+    open_call::open(first_key, second_key, rounds, page, scratch, out)
 }
 
 // Enters a contractor.

@@ -35,6 +35,9 @@ use Rattle.judging.proofs.KnownAnswers as J
 use Rattle.issuing.proofs.KnownAnswers as I
 use Rattle.checking.proofs.KnownAnswers as C
 use Rattle.queue_parts.proofs.KnownAnswers as QP
+use Rattle.key_pairs.proofs.KnownAnswers as KP
+use Rattle.pages.proofs.KnownAnswers as P
+use Rattle.page_cases.proofs.KnownAnswers as PC
 use Rattle.roll.specs.declared.Roll.{Roll}
 use Rattle.roll.specs.Roll.{countOf, inStanding}
 use Rattle.grant.specs.Grants.{covers, contractorIn, countIn, sizeBlockIn, isMarked, isGrant}
@@ -102,5 +105,6 @@ known-answers-hold =
     & H.known-answers & HB.known-answers & HC.known-answers & HW.known-answers
     & N.known-answers & R.known-answers & RC.known-answers & RB.known-answers
     & G.known-answers & J.known-answers & I.known-answers & C.known-answers
-    & QP.known-answers
+    & QP.known-answers & KP.known-answers & P.known-answers
+    & PC.known-answers & PC.altered-answers & PC.padded-answers & PC.order-answers & PC.chain-answers
     & last-stages & piles & orders & tt

@@ -37,6 +37,9 @@ use Rattle.issuing.specs.KnownAnswers as I
 use Rattle.checking.specs.KnownAnswers as C
 use Rattle.queue_parts.specs.KnownAnswers as QP
 use Rattle.queue.specs.Queue.{queueAnswers}
+use Rattle.key_pairs.specs.KnownAnswers as KP
+use Rattle.pages.specs.KnownAnswers as P
+use Rattle.page_cases.specs.KnownAnswers as PC
 
 -- the last stage of a key of each size, its subkey and the holder there, and the closing sums
 unfoldable pub knownAnswers : List Case
@@ -135,6 +138,13 @@ allKnownAnswers =
     ∷ I.knownAnswers
     ∷ C.knownAnswers
     ∷ QP.knownAnswers
+    ∷ KP.knownAnswers
+    ∷ P.knownAnswers
+    ∷ PC.knownAnswers
+    ∷ PC.alteredAnswers
+    ∷ PC.paddedAnswers
+    ∷ PC.orderAnswers
+    ∷ PC.chainAnswers
     ∷ knownAnswers
     ∷ pileAnswers
     ∷ orderAnswers

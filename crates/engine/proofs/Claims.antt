@@ -1,41 +1,26 @@
 -- A term of each type of specs/Claims.antt.
 use mathlib.Core.Path.{_≡_, refl, ap, ap₂, _∙_, subst, sym}
 use mathlib.Core.Bool.{true}
-use mathlib.Core.Logic.{inl, inr}
 use mathlib.Core.List.{List, _++_}
-use Prim.Native.Nat.{ℕ, _+_, _*_, _/_, _≤_, _<_}
+use Prim.Native.Nat.{ℕ, _+_, _≤_}
 use native.Mathlib.Omega.{arith}
-use lib.ListN.{length, take, drop, List·getD-eq-default, length-take}
-use lib.Seq.{getD-take, getD-drop}
+use lib.ListN.{length, take, drop}
 use lib.Dec.{lit<}
 use borrow.Author.Tests.{eqb-true, eq-eqb, le-leb}
-use Rattle.basics.proofs.Tests.{below-or-not}
 use Rattle.refusal.proofs.Tries.{none-given, none-holds}
 use Rattle.refusal.proofs.Answers.{put, starts}
 use Rattle.layers.specs.State.{State}
-use Rattle.rounds.specs.Rounds.{turned, enciphered, AllStates}
+use Rattle.rounds.specs.Rounds.{turned, enciphered}
 use Rattle.rounds.proofs.Turned.{turned-states}
 use Rattle.rounds.proofs.Restored.{restored, enciphered-state}
 use Rattle.block_bytes.specs.Blocks.{stateOf, bytesOf, listStates}
 use Rattle.basics.specs.Bytes.{AreBytes}
 use Rattle.block_bytes.proofs.Lists.{length-states}
-use Rattle.block_bytes.proofs.RoundTrip.{state-bytes, bytes-state, length-bytes, list-bytes, block-state, listed-states}
+use Rattle.block_bytes.proofs.RoundTrip.{state-bytes, bytes-state, length-bytes, list-bytes, list-states, block-state}
 use Rattle.list_rounds.specs.ListRounds.{listLength}
 use Rattle.engine.specs.Engine.{engineTries, engineBlock, engineNumber, engineOutput}
 use Rattle.engine.specs.Claims.{turnedBytes, Restored, EngineRestores}
 use Rattle.list_rounds.proofs.Lists.{whole}
-
--- a part of bytes is bytes
-part-bytes : (n m : ℕ) (xs : List ℕ) → AreBytes xs → AreBytes (take n (drop m xs))
-part-bytes n m xs h i = elim (below-or-not i n) [
-  | inl l ↦ subst (λ (x : ℕ). x < 256) (sym (getD-take n (drop m xs) i 0 l ∙ getD-drop m xs i 0)) (h (m + i))
-  | inr g ↦ subst (λ (x : ℕ). x < 256) (sym (List·getD-eq-default (take n (drop m xs)) 0 (omega (arith, length-take n (drop m xs))))) (lit< tt)
-]
-
-list-states : (list : List ℕ) → AreBytes list → AllStates (listStates list)
-unfolding listStates
-list-states list h = listed-states 0 (length list / 12) (λ r. stateOf (take 12 (drop (12 * r) list)))
-    (λ r. block-state (take 12 (drop (12 * r) list)) (part-bytes 12 (12 * r) list h))
 
 -- a turned list is as long as the list
 turned-length : (list : List ℕ) → AreBytes list → listLength (length list) ≡ true → length (turnedBytes list) ≡ length list

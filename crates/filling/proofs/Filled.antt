@@ -1,21 +1,18 @@
 -- A subkey list as it is filled: from the front with the subkeys, and from the back with the turned ones.
 use mathlib.Core.Path.{_≡_, refl, sym, ap, ap₂, _∙_}
-use mathlib.Core.List.{List, [], _++_, append-assoc, append-nil}
-use Prim.Native.Nat.{ℕ, suc, _+_, _-_, _*_, _≤_}
+use mathlib.Core.List.{List, _++_}
+use Prim.Native.Nat.{ℕ, suc, _+_, _*_}
 use native.Mathlib.Omega.{arith}
 use native.Mathlib.Numerals.{add-one}
-use lib.ListN.{length, take, drop, length-drop, drop-of-length-le}
-use lib.Seq.{take-at, drop-at, drop-drop, drop-append-add, take-all}
+use lib.ListN.{length, drop}
+use lib.Seq.{drop-at, drop-drop, drop-append-add}
 use Rattle.layers.specs.State.{State}
 use Rattle.rounds.specs.Rounds.{listedFrom}
 use Rattle.rounds.proofs.Turned.{length-listed}
 use Rattle.block_bytes.specs.Blocks.{bytesOf, listBytes}
+use Rattle.block_bytes.proofs.Put.{overlaid, next-put}
 use Rattle.block_bytes.proofs.RoundTrip.{listed-snoc, length-bytes, bytes-snoc}
 use Rattle.key_lists.specs.KeyLists.{subkey, subkeys}
-
--- twelve bytes put at a place of a list, as the code lends the rest of the list from there on
-abbrev pub overlaid : ℕ → List ℕ → List ℕ → List ℕ
-overlaid at bytes out = take at out ++ (bytes ++ drop 12 (drop at out))
 
 -- ---- from the front
 -- subkeys 0 to s, and then what stood there
@@ -43,13 +40,8 @@ pub front-next : (key out₀ out : List ℕ) (s : ℕ) (k : State) → k ≡ sub
 unfolding front
 front-next key out₀ out s k ek eo =
     let l = listBytes (subkeys key s) in
-    let n = 12 * (s + 1) in
-    let hl = length-front-part key s in
-    let e : n + 12 ≡ 12 * (s + 1 + 1) = omega arith in
-    ap (overlaid n (bytesOf k)) eo
-    ∙ ap₂ (λ (x y : List ℕ). x ++ (bytesOf k ++ drop 12 y)) (take-at l (drop n out₀) n hl) (drop-at l (drop n out₀) n hl)
-    ∙ ap (λ (x : List ℕ). l ++ (bytesOf k ++ x)) (drop-drop 12 n out₀)
-    ∙ sym (append-assoc l (bytesOf k) (drop (n + 12) out₀))
+    let e : 12 * (s + 1) + 12 ≡ 12 * (s + 1 + 1) = omega arith in
+    next-put l (bytesOf k) out₀ out (12 * (s + 1)) (length-front-part key s) eo
     ∙ ap₂ (λ (x : List ℕ) (m : ℕ). x ++ drop m out₀) (ap (λ (k : State). l ++ bytesOf k) ek ∙ sym (more key s)) e
 
 -- what stands behind the list is what stood there before the first subkey was written
@@ -64,15 +56,3 @@ pub front-whole : (key out₀ out : List ℕ) (k : State) (s : ℕ) → out ≡ 
 unfolding front
 front-whole key out₀ out k s e =
     ap (λ (x : List ℕ). listBytes (subkeys key s) ++ x) (ap (drop (12 * (s + 1))) e ∙ past (bytesOf k) out₀ s refl)
-
--- ---- the rest of a list, lent from a place on, with twelve bytes written to it
-pub part-written : (at : ℕ) (out bytes last : List ℕ) → at ≤ length out
-    → last ≡ bytes ++ drop 12 (take (length out - at) (drop at out))
-    → take at out ++ (last ++ drop (length out - at) (drop at out)) ≡ overlaid at bytes out
-part-written at out bytes last h e =
-    let n = length out - at in
-    let l : length (drop at out) ≡ n = length-drop at out in
-    let t : take n (drop at out) ≡ drop at out = take-all n (drop at out) (omega arith) in
-    let d : drop n (drop at out) ≡ [] = drop-of-length-le (drop at out) {i = n} (omega arith) in
-    ap₂ (λ (x y : List ℕ). take at out ++ (x ++ y)) (e ∙ ap (λ (x : List ℕ). bytes ++ drop 12 x) t) d
-    ∙ ap (λ (x : List ℕ). take at out ++ x) (append-nil (bytes ++ drop 12 (drop at out)))

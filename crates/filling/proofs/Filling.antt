@@ -14,7 +14,7 @@ use Rattle.stages.proofs.Keys.{held-length, advanced}
 use Rattle.key_lists.specs.KeyLists.{subkey}
 use Rattle.key_lists.specs.ForProver.{Fits}
 use Rattle.filling.proofs.Keys.{selected}
-use Rattle.filling.proofs.Filled.{overlaid, part-written}
+use Rattle.block_bytes.proofs.Put.{overlaid, part-written}
 
 -- `done s out` is what the bytes `out` are with subkeys 0 to s in their places
 pub record Filling (key : List ℕ) (R : ℕ) (done : ℕ → List ℕ → List ℕ) (out₀ out k : List ℕ) (s : ℕ) : Type 0 where

@@ -16,7 +16,7 @@ use Rattle.rounds.specs.Rounds.{turned}
 use Rattle.rounds.proofs.Turned.{length-listed, getD-listed, turned-length, turned-first, turned-last, turned-inner}
 use Rattle.block_bytes.specs.Blocks.{bytesOf, listBytes}
 use Rattle.key_lists.specs.KeyLists.{subkey, subkeys}
-use Rattle.filling.proofs.Filled.{overlaid}
+use Rattle.block_bytes.proofs.Put.{overlaid}
 
 module _ (key : List ℕ) (R : ℕ) where
   ks : List State

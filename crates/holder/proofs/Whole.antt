@@ -22,7 +22,8 @@ use Rattle.cycle.proofs.Addends.{following-below, preceding-below}
 use Rattle.holder.specs.declared.Holder.{Holder}
 use Rattle.holder.specs.declared.Way.{Way}
 use Rattle.holder.specs.declared.Way.the-variants.{Forward, Back}
-use Rattle.holder.specs.Holder.{tHeld, allZero, whole, holderAt, onward, backward, stepped}
+use Rattle.byte_slices.specs.Slices.{allZero}
+use Rattle.holder.specs.Holder.{tHeld, whole, holderAt, onward, backward, stepped}
 use Rattle.holder.proofs.Zeros.{padded-zeros, zeros-kept}
 
 pub record Whole (h : Holder) : Type 0 where

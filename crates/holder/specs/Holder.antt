@@ -1,10 +1,11 @@
 -- The key holder: document 01, "Key stages". A holder holds one stage of a key and steps it forward and back (the paper's cyclic key
 -- schedule, computed on the fly). Its record, declared in src/, has the key's length, the stage's number and 24 bytes.
-use mathlib.Core.Bool.{Bool, true, _&&_}
-use mathlib.Core.List.{List, [], _∷_}
+use mathlib.Core.Bool.{Bool, _&&_}
+use mathlib.Core.List.{List}
 use Prim.Native.Nat.{ℕ}
-use lib.Dec.{eqb, ltb}
+use lib.Dec.{ltb}
 use lib.ListN.{length, drop, replicate}
+use Rattle.byte_slices.specs.Slices.{allZero}
 use Rattle.sizes.specs.Sizes.{keyLength, tOf, turn}
 use Rattle.stages.specs.Columns.{padded}
 use Rattle.stages.specs.Stages.{stage}
@@ -16,10 +17,6 @@ use Rattle.holder.specs.declared.Way.the-variants.{Forward, Back}
 -- the t of a holder's key length
 abbrev pub tHeld : Holder → ℕ
 tHeld h = tOf (h .length)
-
-unfoldable pub allZero : List ℕ → Bool
-allZero [] = true
-allZero (b ∷ bs) = eqb b 0 && allZero bs
 
 -- a holder that is not refused with 24: a right key length, a number below the turn, and zeros past the key
 unfoldable pub whole : Holder → Bool

@@ -3,9 +3,8 @@
 
 ghost use mathlib.Core.Path.{_≡_};
 ghost use mathlib.Core.Bool.{true};
-ghost use lib.ListN.{drop};
 ghost use Rattle.basics.specs.Repeated.{repeated};
-ghost use Rattle.holder.specs.Holder.{allZero, whole, blank, stepped};
+ghost use Rattle.holder.specs.Holder.{whole, blank, stepped};
 use basics::both;
 use refusal::Outcome;
 
@@ -28,20 +27,6 @@ pub struct HolderAnswer {
     pub holder: Holder,
 }
 
-// Every byte from n on is zero.
-fn zeros_from(bytes: &[u8], n: usize) -> bool
-    ensures { λ r. ⌜ r ≡ allZero (drop n (now (bytes .entry))) ⌝ }
-{
-    let mut i = n;
-    while i < bytes.len() {
-        if bytes[i] != 0 {
-            return false;
-        }
-        i += 1;
-    }
-    true
-}
-
 // A holder that is not refused with 24.
 pub fn is_whole(h: Holder) -> bool
     ensures { λ r. ⌜ r ≡ whole h ⌝ }
@@ -52,7 +37,7 @@ pub fn is_whole(h: Holder) -> bool
     let below = number < sizes::turn_of_key(length);
     both(
         sizes::is_key_length(length),
-        both(below, zeros_from(&bytes, length)),
+        both(below, byte_slices::zeros_from(&bytes, length)),
     )
 }
 

@@ -3,7 +3,8 @@ use mathlib.Core.Path.{refl}
 use Rattle.basics.specs.Cases.{Hold}
 use Rattle.basics.proofs.Cases.{_&_}
 use Rattle.refusal.specs.Tries.{first}
-use Rattle.holder.specs.Holder.{allZero, whole, blank}
+use Rattle.byte_slices.specs.Slices.{allZero}
+use Rattle.holder.specs.Holder.{whole, blank}
 use Rattle.holder_bytes.specs.HolderBytes.{holderOf}
 use Rattle.holder_calls.specs.KnownAnswers.{knownAnswers}
 

@@ -78,9 +78,11 @@ module _ (key : List ℕ) (h : keyLength (length key) ≡ true) (b : AreBytes ke
   states-for Enciphering R = states R
   states-for Deciphering R = turned-states (subkeys key R) (states R) .1
 
-  -- the engine reads a list's bytes as the list
+  -- the list at the start of some bytes is read as the list
+  pub read-list : (d : Direction) (R : ℕ) (rest : List ℕ) → listStates (take (12 * (R + 1)) (listBytes (listFor d key R) ++ rest)) ≡ listFor d key R
+  read-list d R rest =
+      ap listStates (take-at (listBytes (listFor d key R)) rest (12 * (R + 1)) (length-prepared d key R)) ∙ list-bytes (listFor d key R) (states-for d R)
+
   pub read-back : (d : Direction) (R : ℕ) (rest : List ℕ) (a : State)
       → enciphered (listStates (take (12 * (R + 1)) (listBytes (listFor d key R) ++ rest))) a ≡ enciphered (listFor d key R) a
-  read-back d R rest a =
-      ap (λ (l : List State). enciphered l a)
-      (ap listStates (take-at (listBytes (listFor d key R)) rest (12 * (R + 1)) (length-prepared d key R)) ∙ list-bytes (listFor d key R) (states-for d R))
+  read-back d R rest a = ap (λ (l : List State). enciphered l a) (read-list d R rest)

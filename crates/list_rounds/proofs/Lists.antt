@@ -1,19 +1,17 @@
--- Lent lists: their lengths, their subkeys, and the rounds one subkey after the other.
-use mathlib.Core.Path.{_≡_, refl, sym, ap, _∙_}
-use mathlib.Core.Bool.{true, _&&_}
+-- Lent lists: their lengths, and the rounds one subkey after the other.
+use mathlib.Core.Path.{_≡_, refl, sym, ap, ap₂, _∙_}
+use mathlib.Core.Bool.{Bool, true, _&&_}
 use mathlib.Core.List.{List, [], _∷_}
-use Prim.Native.Nat.{ℕ, suc, _+_, _-_, _*_, _/_, _%_, _≤_, _<_}
+use Prim.Native.Nat.{ℕ, suc, _+_, _*_, _%_, _≤_, _<_}
 use native.Mathlib.Omega.{arith}
 use lib.Dec.{leb, eqb}
-use lib.ListN.{length, getD, take, drop}
+use lib.ListN.{length, getD, drop}
 use lib.Seq.{drop-cons, drop-length}
-use borrow.Author.Tests.{leb-true, eqb-true}
+use borrow.Author.Tests.{leb-true, le-leb, eqb-true, eq-eqb}
 use Rattle.basics.proofs.Tests.{and-first, and-second}
 use Rattle.layers.specs.State.{State}
 use Rattle.layers.specs.Layers.{added}
 use Rattle.rounds.specs.Rounds.{round, lastRound, rounds, enciphered}
-use Rattle.block_bytes.specs.Blocks.{stateOf, listStates}
-use Rattle.block_bytes.proofs.Lists.{state-at}
 use Rattle.list_rounds.specs.ListRounds.{listLength}
 
 -- ---- the test of a list's length
@@ -32,12 +30,12 @@ whole n e =
       twelves = eqb-true (n % 12) 0 (and-second (leb n 288) (eqb (n % 12) 0) later);
     }
 
--- ---- a subkey, as the code reads it
-pub subkey-read : (list : List ℕ) (r : ℕ) (k : State) → r < length list / 12 → k ≡ stateOf (take (12 * r + 12 - 12 * r) (drop (12 * r) list))
-    → k ≡ getD (listStates list) r []
-subkey-read list r k h e =
-    let z : 12 * r + 12 - 12 * r ≡ 12 = omega arith in
-    e ∙ ap (λ (m : ℕ). stateOf (take m (drop (12 * r) list))) z ∙ sym (state-at list r h)
+-- a list that a key gives, by its rounds
+pub accepted : (rounds : ℕ) → 10 ≤ rounds → rounds ≤ 23 → listLength (12 * (rounds + 1)) ≡ true
+accepted rounds l h =
+    ap₂ (λ (a b : Bool). a && (b && eqb (12 * (rounds + 1) % 12) 0)) (le-leb 132 (12 * (rounds + 1)) (omega arith))
+    (le-leb (12 * (rounds + 1)) 288 (omega arith))
+    ∙ eq-eqb (12 * (rounds + 1) % 12) 0 (omega arith)
 
 -- ---- the rounds from subkey r on
 module _ (ks : List State) (r : ℕ) (a : State) where

@@ -23,7 +23,7 @@ use Rattle.key_lists.specs.Claims.{Settings}
 use Rattle.key_lists.proofs.Lists.{allowed, fitting, length-prepared}
 use Rattle.cipher.specs.Claims.{EngineRunsPrepared}
 use Rattle.cipher.proofs.Claims.{engine-runs-prepared}
-use Rattle.cipher.proofs.Accepted.{accepted}
+use Rattle.list_rounds.proofs.Lists.{accepted}
 use Rattle.roll.specs.declared.Roll.{Roll}
 use Rattle.roll.specs.Roll.{countOf}
 use Rattle.grant.specs.Grants.{isRight, contractorIn}

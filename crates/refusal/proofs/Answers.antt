@@ -53,13 +53,20 @@ pub refuses : (ts : List Try) (n : ℕ) (bytes out : List ℕ) → 0 < n → fir
 refuses ts n bytes out h e = (sym e, kept n bytes out h ∙ ap (λ (m : ℕ). written m bytes out) (sym e))
 
 -- ---- calls by value
-pub answer-refused : {A : Type 0} (ts : List Try) (n : ℕ) (done refused : A) → 0 < n → first ts ≡ n → refused ≡ answered (first ts) done refused
+pub not-answered : {A : Type 0} (n : ℕ) (done refused : A) → 0 < n → refused ≡ answered n done refused
 unfolding answered
-answer-refused ts n done refused h e = sym (ap (λ (b : Bool). cond b done refused) (ap (λ (m : ℕ). eqb m 0) e ∙ ne-eqb n 0 (λ e. omega arith)))
+not-answered n done refused h = sym (ap (λ (b : Bool). cond b done refused) (ne-eqb n 0 (λ e. omega arith)))
+
+pub is-answered : {A : Type 0} (n : ℕ) (done refused : A) → n ≡ 0 → done ≡ answered n done refused
+unfolding answered
+is-answered n done refused e = sym (ap (λ (b : Bool). cond b done refused) (eq-eqb n 0 e))
+
+-- of a list of tries
+pub answer-refused : {A : Type 0} (ts : List Try) (n : ℕ) (done refused : A) → 0 < n → first ts ≡ n → refused ≡ answered (first ts) done refused
+answer-refused ts n done refused h e = not-answered (first ts) done refused (omega (arith, h, e))
 
 pub answer-done : {A : Type 0} (ts : List Try) (done refused : A) → first ts ≡ 0 → done ≡ answered (first ts) done refused
-unfolding answered
-answer-done ts done refused e = sym (ap (λ (b : Bool). cond b done refused) (eq-eqb (first ts) 0 e))
+answer-done ts done refused e = is-answered (first ts) done refused e
 
 -- what holds of what a call makes where it does not refuse, and of what is said for a refusal, holds of the answer
 pub answer-either : {A : Type 0} (P : A → Type 0) (n : ℕ) (done refused : A) → (n ≡ 0 → P done) → P refused → P (answered n done refused)

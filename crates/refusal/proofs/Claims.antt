@@ -1,16 +1,19 @@
 -- A term of each type of specs/Claims.antt.
 use mathlib.Core.Path.{_≡_, refl, sym, ap, _∙_}
-use mathlib.Core.Bool.{cond}
+use mathlib.Core.Bool.{Bool, cond}
 use Prim.Native.Nat.{ℕ}
+use native.Mathlib.Omega.{arith}
 use lib.Dec.{eqb}
+use borrow.Author.Tests.{ne-eqb}
 use Rattle.refusal.specs.declared.Reason.{Reason}
 use Rattle.refusal.specs.declared.Reason.the-variants.{KeyLength, RoundCount, InputLength, OutputTooShort, StageOrList, Contractor, UnknownRight}
-use Rattle.refusal.specs.declared.Reason.the-variants.{NotAGrant, OtherBlock, OtherRight, NotInStanding, InStanding, CountSpent, OtherCount}
-use Rattle.refusal.specs.declared.Reason.the-variants.{BrokenHolder}
+use Rattle.refusal.specs.declared.Reason.the-variants.{NotAGrant, OtherBlock, OtherRight, NotAPage, PayloadTooLong, CheckDiffers}
+use Rattle.refusal.specs.declared.Reason.the-variants.{NotInStanding, InStanding, CountSpent, OtherCount, BrokenHolder}
 use Rattle.refusal.specs.declared.Outcome.{Outcome}
 use Rattle.refusal.specs.declared.Outcome.the-variants.{Done, Refused}
 use Rattle.refusal.specs.Reasons.{reasonNumber, outcomeNumber}
 use Rattle.refusal.specs.Claims.{NumbersTellReasons, NumbersTellOutcomes, NoneHoldsNoneGiven, NoneGivenNoneHolds, GivenIsFirst}
+use Rattle.refusal.proofs.Reasons.{reason-positive}
 use Rattle.refusal.proofs.Tries.{none-given, none-holds, first-of}
 
 -- ---- a reason from its number
@@ -18,8 +21,9 @@ reason : ℕ → Reason
 reason n =
     cond (eqb n 1) KeyLength (cond (eqb n 2) RoundCount (cond (eqb n 3) InputLength (cond (eqb n 4) OutputTooShort
     (cond (eqb n 5) StageOrList (cond (eqb n 6) Contractor (cond (eqb n 7) UnknownRight (cond (eqb n 8) NotAGrant
-    (cond (eqb n 9) OtherBlock (cond (eqb n 10) OtherRight (cond (eqb n 20) NotInStanding (cond (eqb n 21) InStanding
-    (cond (eqb n 22) CountSpent (cond (eqb n 23) OtherCount BrokenHolder)))))))))))))
+    (cond (eqb n 9) OtherBlock (cond (eqb n 10) OtherRight (cond (eqb n 11) NotAPage (cond (eqb n 12) PayloadTooLong
+    (cond (eqb n 13) CheckDiffers (cond (eqb n 20) NotInStanding (cond (eqb n 21) InStanding (cond (eqb n 22) CountSpent
+    (cond (eqb n 23) OtherCount BrokenHolder))))))))))))))))
 
 reason-number : (r : Reason) → reason (reasonNumber r) ≡ r
 unfolding reason
@@ -33,6 +37,9 @@ reason-number UnknownRight = refl
 reason-number NotAGrant = refl
 reason-number OtherBlock = refl
 reason-number OtherRight = refl
+reason-number NotAPage = refl
+reason-number PayloadTooLong = refl
+reason-number CheckDiffers = refl
 reason-number NotInStanding = refl
 reason-number InStanding = refl
 reason-number CountSpent = refl
@@ -49,21 +56,9 @@ outcome n = cond (eqb n 0) Done (Refused (reason n))
 
 not-zero : (r : Reason) → outcome (reasonNumber r) ≡ Refused (reason (reasonNumber r))
 unfolding outcome
-not-zero KeyLength = refl
-not-zero RoundCount = refl
-not-zero InputLength = refl
-not-zero OutputTooShort = refl
-not-zero StageOrList = refl
-not-zero Contractor = refl
-not-zero UnknownRight = refl
-not-zero NotAGrant = refl
-not-zero OtherBlock = refl
-not-zero OtherRight = refl
-not-zero NotInStanding = refl
-not-zero InStanding = refl
-not-zero CountSpent = refl
-not-zero OtherCount = refl
-not-zero BrokenHolder = refl
+not-zero r =
+    let n = reasonNumber r in
+    ap (λ (b : Bool). cond b Done (Refused (reason n))) (ne-eqb n 0 (λ e. omega (arith, reason-positive r, e)))
 
 outcome-number : (o : Outcome) → outcome (outcomeNumber o) ≡ o
 unfolding outcome

@@ -1,42 +1,39 @@
 -- No reason has the number 0, and none a number above 24.
+use mathlib.Core.Path.{_≡_, refl}
+use mathlib.Core.Bool.{true, _&&_}
 use Prim.Native.Nat.{_≤_, _<_}
-use native.Mathlib.Omega.{arith}
+use lib.Dec.{ltb, leb}
+use borrow.Author.Tests.{ltb-true, leb-true}
+use Rattle.basics.proofs.Tests.{and-first, and-second}
 use Rattle.refusal.specs.declared.Reason.{Reason}
 use Rattle.refusal.specs.declared.Reason.the-variants.{KeyLength, RoundCount, InputLength, OutputTooShort, StageOrList, Contractor, UnknownRight}
-use Rattle.refusal.specs.declared.Reason.the-variants.{NotAGrant, OtherBlock, OtherRight, NotInStanding, InStanding, CountSpent, OtherCount}
-use Rattle.refusal.specs.declared.Reason.the-variants.{BrokenHolder}
+use Rattle.refusal.specs.declared.Reason.the-variants.{NotAGrant, OtherBlock, OtherRight, NotAPage, PayloadTooLong, CheckDiffers}
+use Rattle.refusal.specs.declared.Reason.the-variants.{NotInStanding, InStanding, CountSpent, OtherCount, BrokenHolder}
 use Rattle.refusal.specs.Reasons.{reasonNumber}
 
+-- both, as a test that computes
+bounded : (r : Reason) → (ltb 0 (reasonNumber r) && leb (reasonNumber r) 24) ≡ true
+bounded KeyLength = refl
+bounded RoundCount = refl
+bounded InputLength = refl
+bounded OutputTooShort = refl
+bounded StageOrList = refl
+bounded Contractor = refl
+bounded UnknownRight = refl
+bounded NotAGrant = refl
+bounded OtherBlock = refl
+bounded OtherRight = refl
+bounded NotAPage = refl
+bounded PayloadTooLong = refl
+bounded CheckDiffers = refl
+bounded NotInStanding = refl
+bounded InStanding = refl
+bounded CountSpent = refl
+bounded OtherCount = refl
+bounded BrokenHolder = refl
+
 pub reason-positive : (r : Reason) → 0 < reasonNumber r
-reason-positive KeyLength = omega arith
-reason-positive RoundCount = omega arith
-reason-positive InputLength = omega arith
-reason-positive OutputTooShort = omega arith
-reason-positive StageOrList = omega arith
-reason-positive Contractor = omega arith
-reason-positive UnknownRight = omega arith
-reason-positive NotAGrant = omega arith
-reason-positive OtherBlock = omega arith
-reason-positive OtherRight = omega arith
-reason-positive NotInStanding = omega arith
-reason-positive InStanding = omega arith
-reason-positive CountSpent = omega arith
-reason-positive OtherCount = omega arith
-reason-positive BrokenHolder = omega arith
+reason-positive r = let n = reasonNumber r in ltb-true 0 n (and-first (ltb 0 n) (leb n 24) (bounded r))
 
 pub reason-most : (r : Reason) → reasonNumber r ≤ 24
-reason-most KeyLength = omega arith
-reason-most RoundCount = omega arith
-reason-most InputLength = omega arith
-reason-most OutputTooShort = omega arith
-reason-most StageOrList = omega arith
-reason-most Contractor = omega arith
-reason-most UnknownRight = omega arith
-reason-most NotAGrant = omega arith
-reason-most OtherBlock = omega arith
-reason-most OtherRight = omega arith
-reason-most NotInStanding = omega arith
-reason-most InStanding = omega arith
-reason-most CountSpent = omega arith
-reason-most OtherCount = omega arith
-reason-most BrokenHolder = omega arith
+reason-most r = let n = reasonNumber r in leb-true n 24 (and-second (ltb 0 n) (leb n 24) (bounded r))

@@ -1,21 +1,21 @@
 -- The numbers of the reasons: document 01, "Reasons found in the input" and "Reasons found in the state"; 10 as request 1 has it, 3 and 4
--- also as request 2 has them.
+-- also as request 2 has them, 1, 4 and 11 to 13 also as request 3 has them.
 use Prim.Native.Nat.{ℕ}
 use Rattle.refusal.specs.declared.Reason.{Reason}
 use Rattle.refusal.specs.declared.Reason.the-variants.{KeyLength, RoundCount, InputLength, OutputTooShort, StageOrList, Contractor, UnknownRight}
-use Rattle.refusal.specs.declared.Reason.the-variants.{NotAGrant, OtherBlock, OtherRight, NotInStanding, InStanding, CountSpent, OtherCount}
-use Rattle.refusal.specs.declared.Reason.the-variants.{BrokenHolder}
+use Rattle.refusal.specs.declared.Reason.the-variants.{NotAGrant, OtherBlock, OtherRight, NotAPage, PayloadTooLong, CheckDiffers}
+use Rattle.refusal.specs.declared.Reason.the-variants.{NotInStanding, InStanding, CountSpent, OtherCount, BrokenHolder}
 use Rattle.refusal.specs.declared.Outcome.{Outcome}
 use Rattle.refusal.specs.declared.Outcome.the-variants.{Done, Refused}
 
 abbrev pub reasonNumber : Reason → ℕ
--- key not 12, 18 or 24 bytes
+-- key not 12, 18 or 24 bytes; also two keys for a page that are equal or of unequal lengths
 reasonNumber KeyLength = 1
 -- round count outside the table's row
 reasonNumber RoundCount = 2
 -- block or grant not 12 bytes; a queue of grants whose length is over 768 or not a multiple of 12; in the C call also a roll not 400 bytes
 reasonNumber InputLength = 3
--- output too short; of a queue, fewer bytes for the answers than grants
+-- output too short; of a queue, fewer bytes for the answers than grants; of a page, also scratch under 576 bytes
 reasonNumber OutputTooShort = 4
 -- stage number 6t or more; or a subkey list whose length is under 132, over 288 or not a multiple of 12
 reasonNumber StageOrList = 5
@@ -29,6 +29,12 @@ reasonNumber NotAGrant = 8
 reasonNumber OtherBlock = 9
 -- overwriting asked of a reading grant. The name is that of the rule before request 1
 reasonNumber OtherRight = 10
+-- page not 512 bytes, its used count over 492 or its bytes 8 to 11 not zero; or, tried after the check, unused payload bytes that are not zero
+reasonNumber NotAPage = 11
+-- payload over 492 bytes
+reasonNumber PayloadTooLong = 12
+-- the check of a page differs
+reasonNumber CheckDiffers = 13
 -- contractor not in standing
 reasonNumber NotInStanding = 20
 -- entering someone in standing

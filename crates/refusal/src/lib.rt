@@ -5,7 +5,7 @@ ghost use mathlib.Core.List.{[], _∷_};
 ghost use Rattle.refusal.specs.Reasons.{reasonNumber, outcomeNumber};
 ghost use Rattle.refusal.specs.Tries.{_unless_, after, isRefused};
 
-// Document 01's reasons found in the input and in the state.
+// Document 01's reasons found in the input and in the state, and those that requests add.
 pub enum Reason {
     KeyLength,
     RoundCount,
@@ -17,6 +17,9 @@ pub enum Reason {
     NotAGrant,
     OtherBlock,
     OtherRight,
+    NotAPage,
+    PayloadTooLong,
+    CheckDiffers,
     NotInStanding,
     InStanding,
     CountSpent,
@@ -45,6 +48,9 @@ pub fn reason_number(r: Reason) -> u32
         Reason::NotAGrant => 8,
         Reason::OtherBlock => 9,
         Reason::OtherRight => 10,
+        Reason::NotAPage => 11,
+        Reason::PayloadTooLong => 12,
+        Reason::CheckDiffers => 13,
         Reason::NotInStanding => 20,
         Reason::InStanding => 21,
         Reason::CountSpent => 22,

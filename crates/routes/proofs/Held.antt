@@ -23,7 +23,7 @@ use Rattle.holder.specs.declared.Way.{Way}
 use Rattle.holder.specs.Holder.{tHeld, whole, holderAt, stepped}
 use Rattle.holder_steps.specs.Steps.{holderTries, holderNumber, stepHolder}
 use Rattle.holder.proofs.Whole.{a-whole, turn-held, steps-whole, whole-at}
-use Rattle.holder.proofs.Zeros.{zeros-are}
+use Rattle.byte_slices.proofs.Zeros.{zeros-are}
 use Rattle.routes.specs.Claims.{ComesHome}
 use Rattle.routes.proofs.Ring.{full-turn}
 use Rattle.routes.proofs.At.{steps-at}

@@ -3,7 +3,7 @@
 
 use std::slice;
 
-use gordzila::raw;
+use gordzila::{raw, PageKeys};
 
 use crate::call::Call;
 use crate::lend::{Bytes, Lent};
@@ -12,7 +12,15 @@ use crate::lend::{Bytes, Lent};
 ///
 /// Whoever makes a `Lent` answers for its pointers: each has as many bytes as its length says, and
 /// what the call writes to overlaps nothing else.
-pub fn archive(call: Call, lent: &Lent) -> u32 {
+pub fn archive(call: Call, lent: &Lent) -> u64 {
+    match call {
+        Call::OpenPage => open_page(lent),
+        _ => u64::from(short_answer(call, lent)),
+    }
+}
+
+/// Makes a call of the archive that answers 32 bits.
+fn short_answer(call: Call, lent: &Lent) -> u32 {
     let (key, list, block) = (read(lent.key), read(lent.list), read(lent.block));
     match call {
         Call::Encipher => raw::encipher_number(key, lent.rounds, block, write(lent.out)),
@@ -36,6 +44,8 @@ pub fn archive(call: Call, lent: &Lent) -> u32 {
         Call::HolderBack => raw::holder_back_number(write(lent.holder)),
         Call::HolderWalk => raw::holder_walk_number(write(lent.holder), lent.stage),
         Call::HolderSubkey => raw::holder_subkey_number(read(lent.holder), write(lent.out)),
+        Call::SealPage => seal_page(block, lent),
+        Call::OpenPage => unreachable!("the opening of a page answers 64 bits"),
     }
 }
 
@@ -72,6 +82,30 @@ fn check_queue(key: &[u8], grants: &[u8], lent: &Lent) -> u32 {
         lent.right,
         write(lent.out),
     )
+}
+
+fn seal_page(payload: &[u8], lent: &Lent) -> u32 {
+    raw::seal_page_number(
+        page_keys(lent),
+        lent.rounds,
+        lent.size_block,
+        lent.page_number,
+        payload,
+        write(lent.scratch),
+        write(lent.out),
+    )
+}
+
+fn open_page(lent: &Lent) -> u64 {
+    let (scratch, out) = (write(lent.scratch), write(lent.out));
+    raw::open_page_number(page_keys(lent), lent.rounds, read(lent.block), scratch, out)
+}
+
+fn page_keys<'a>(lent: &Lent) -> PageKeys<'a> {
+    PageKeys {
+        first: read(lent.key),
+        second: read(lent.second_key),
+    }
 }
 
 /// Bytes that the call only reads.

@@ -1,7 +1,7 @@
 //! The calls of the C interface, and what the header says of each: what it is given, and the order
 //! of its reasons for refusing.
 
-use crate::order;
+use crate::order::{self, LATE_11};
 
 /// A call.
 #[derive(Clone, Copy, Debug, PartialEq, Eq, PartialOrd, Ord, Hash)]
@@ -23,12 +23,16 @@ pub enum Call {
     HolderBack,
     HolderWalk,
     HolderSubkey,
+    SealPage,
+    OpenPage,
 }
 
 /// What a call can be given.
 #[derive(Clone, Copy, Debug, PartialEq, Eq)]
 pub enum Argument {
+    /// The key, and the first of the two keys for a page.
     Key,
+    SecondKey,
     Rounds,
     Stage,
     Roll,
@@ -40,14 +44,30 @@ pub enum Argument {
     Contractor,
     SizeBlock,
     Right,
+    PageNumber,
+    Payload,
+    Page,
+    Scratch,
     Out,
 }
 
 use Argument as A;
 
+/// What the sealing of a page is given.
+const SEALING: [Argument; 8] = [
+    A::Key,
+    A::SecondKey,
+    A::Rounds,
+    A::SizeBlock,
+    A::PageNumber,
+    A::Payload,
+    A::Scratch,
+    A::Out,
+];
+
 impl Call {
     /// All calls.
-    pub const ALL: [Call; 17] = [
+    pub const ALL: [Call; 19] = [
         Call::Encipher,
         Call::Decipher,
         Call::PrepareEnciphering,
@@ -65,7 +85,12 @@ impl Call {
         Call::HolderBack,
         Call::HolderWalk,
         Call::HolderSubkey,
+        Call::SealPage,
+        Call::OpenPage,
     ];
+
+    /// The calls on pages. They take two keys and a scratch.
+    pub const ON_PAGES: [Call; 2] = [Call::SealPage, Call::OpenPage];
 
     /// The place among all calls.
     pub fn place(self) -> usize {
@@ -93,6 +118,8 @@ impl Call {
             Call::HolderBack => "holder_back",
             Call::HolderWalk => "holder_walk",
             Call::HolderSubkey => "holder_subkey",
+            Call::SealPage => "seal_page",
+            Call::OpenPage => "open_page",
         }
     }
 
@@ -127,6 +154,8 @@ impl Call {
             Call::HolderForward | Call::HolderBack => &[A::Holder],
             Call::HolderWalk => &[A::Holder, A::Stage],
             Call::HolderSubkey => &[A::Holder, A::Out],
+            Call::SealPage => &SEALING,
+            Call::OpenPage => &[A::Key, A::SecondKey, A::Rounds, A::Page, A::Scratch, A::Out],
         }
     }
 
@@ -149,13 +178,16 @@ impl Call {
     /// Whether a reason has no meaning where another holds: without a right key length no round
     /// count and no stage is wrong, nothing is deciphered that is not whole, and without a roll and
     /// a contractor nobody is in standing. And nobody in standing has a count that is spent, and who
-    /// asks for no right does not ask for overwriting.
+    /// asks for no right does not ask for overwriting. Two keys for a page can be wrong for being
+    /// equal, and everything else is then wrong or not as it is with other keys.
     fn silences(self, holding: u32, other: u32) -> bool {
         let silent: &[u32] = match (self, holding) {
             (Call::Check, 1) => &[2, 8, 9, 10, 20, 23],
             (Call::Check, 2 | 3) => &[8, 9, 10, 20, 23],
             (Call::Check, 7) => &[10],
             (Call::Check, 8) => &[9, 10, 20, 23],
+            (Call::OpenPage, 2) => &[13, LATE_11],
+            (Call::SealPage | Call::OpenPage, _) => &[],
             (_, 1) => &[2, 5],
             (_, 3 | 6) => &[20, 21, 22],
             (_, 21) => &[22],

@@ -8,7 +8,9 @@ use crate::call::{Argument, Call};
 #[derive(Clone, Debug, PartialEq, Eq)]
 pub struct Case {
     pub call: Call,
+    /// The key, or the first of the two keys for a page.
     pub key: Vec<u8>,
+    pub second_key: Vec<u8>,
     pub rounds: u32,
     /// The number of a key stage.
     pub stage: u32,
@@ -17,15 +19,18 @@ pub struct Case {
     pub holder: Vec<u8>,
     /// A subkey list.
     pub list: Vec<u8>,
-    /// A block, a grant, or the grants of a queue, one after the other.
+    /// A block, a grant, the grants of a queue, one after the other, a payload or a page.
     pub block: Vec<u8>,
     pub contractor: u32,
     pub size_block: u32,
     pub right: u32,
+    pub page_number: u16,
+    /// How many bytes are lent as a scratch.
+    pub scratch: usize,
     /// How many bytes are lent to be written to.
     pub out: usize,
-    /// Whether the block is lent from within the key's own bytes. Then the key begins with the
-    /// block.
+    /// Whether the block, or of a case on a page the second key, is lent from within the key's own
+    /// bytes. Then the key begins with it.
     pub shared: bool,
 }
 
@@ -35,6 +40,7 @@ impl Case {
         Case {
             call,
             key: Vec::new(),
+            second_key: Vec::new(),
             rounds: 0,
             stage: 0,
             roll: Vec::new(),
@@ -44,6 +50,8 @@ impl Case {
             contractor: 0,
             size_block: 0,
             right: 0,
+            page_number: 0,
+            scratch: 0,
             out: 0,
             shared: false,
         }
@@ -53,6 +61,7 @@ impl Case {
     fn given(&self, argument: Argument) -> String {
         match argument {
             Argument::Key => format!("key={}", hex(&self.key)),
+            Argument::SecondKey => format!("second_key={}", hex(&self.second_key)),
             Argument::Rounds => format!("rounds={}", self.rounds),
             Argument::Stage => format!("stage={}", self.stage),
             Argument::Roll => format!("roll={}", hex(&self.roll)),
@@ -64,6 +73,10 @@ impl Case {
             Argument::Contractor => format!("contractor={}", self.contractor),
             Argument::SizeBlock => format!("size_block={}", self.size_block),
             Argument::Right => format!("right={}", self.right),
+            Argument::PageNumber => format!("page_number={}", self.page_number),
+            Argument::Payload => format!("payload={}", hex(&self.block)),
+            Argument::Page => format!("page={}", hex(&self.block)),
+            Argument::Scratch => format!("scratch_length={}", self.scratch),
             Argument::Out => format!("out_length={}", self.out),
         }
     }
@@ -75,10 +88,11 @@ impl fmt::Display for Case {
         for &argument in self.call.arguments() {
             write!(out, " {}", self.given(argument))?;
         }
-        if self.shared {
-            out.write_str(" (the block is lent from the key's bytes)")?;
+        match (self.shared, Call::ON_PAGES.contains(&self.call)) {
+            (true, false) => out.write_str(" (the block is lent from the key's bytes)"),
+            (true, true) => out.write_str(" (the second key is lent from the key's bytes)"),
+            (false, _) => Ok(()),
         }
-        Ok(())
     }
 }
 

@@ -12,8 +12,9 @@ pub fn differences(
     library: &Library<'_>,
     random: &mut Random,
 ) -> Vec<String> {
-    let before = output_before(case.out, &effect.written, random);
-    let mut loan = Loan::new(case, &before, random);
+    let mut scratch = bytes_before(case.scratch, &effect.scratch, random);
+    let mut out = bytes_before(case.out, &effect.written, random);
+    let mut loan = Loan::new(case, &scratch, &out, random);
     let answer = loan.call(case, library);
     let mut found = Vec::new();
     if answer != effect.answer {
@@ -22,15 +23,17 @@ pub fn differences(
             effect.answer
         ));
     }
-    let mut after = before;
-    after[..effect.written.len()].copy_from_slice(&effect.written);
-    let parts: [(&str, &Guarded, &[u8]); 6] = [
+    scratch[..effect.scratch.len()].copy_from_slice(&effect.scratch);
+    out[..effect.written.len()].copy_from_slice(&effect.written);
+    let parts: [(&str, &Guarded, &[u8]); 8] = [
         ("key", &loan.key, &case.key),
+        ("second key", &loan.second_key, &case.second_key),
         ("roll", &loan.roll, &effect.roll),
         ("holder", &loan.holder, &effect.holder),
         ("list", &loan.list, &case.list),
-        ("block or grants", &loan.block, &case.block),
-        ("out", &loan.out, &after),
+        ("block, grants, payload or page", &loan.block, &case.block),
+        ("scratch", &loan.scratch, &scratch),
+        ("out", &loan.out, &out),
     ];
     for (name, guarded, right) in parts {
         compare_part(name, guarded, right, &mut found);
@@ -38,8 +41,9 @@ pub fn differences(
     found
 }
 
-/// What stands in the output before the call: any bytes, but none that the call has to write there.
-fn output_before(length: usize, written: &[u8], random: &mut Random) -> Vec<u8> {
+/// What stands in the scratch or in the output before the call: any bytes, but none that the call has
+/// to leave or to write there.
+fn bytes_before(length: usize, written: &[u8], random: &mut Random) -> Vec<u8> {
     let mut bytes = random.bytes(length);
     for (byte, right) in bytes.iter_mut().zip(written) {
         if byte == right {

@@ -6,11 +6,16 @@ use crate::expect::{needed, BLOCK_BYTES, OVERWRITING, QUEUE_GRANTS, READING};
 use crate::family::{self, Family, Held};
 use crate::holders;
 use crate::oracle::{Oracle, Way};
+use crate::paging;
 use crate::random::Random;
 use crate::rolls::set_count;
 use crate::spoil::spoil;
 
-/// How often each call is drawn.
+/// How many arguments are spoilt: often none. Cases on pages are few, and are spoilt more.
+const SPOILT: [usize; 10] = [0, 0, 0, 0, 0, 1, 1, 1, 2, 3];
+const SPOILT_ON_PAGES: [usize; 10] = [0, 0, 0, 0, 1, 1, 2, 2, 3, 4];
+
+/// How often each call is drawn from a family without pages.
 const WEIGHTS: [(Call, usize); 17] = [
     (Call::Encipher, 10),
     (Call::Decipher, 10),
@@ -31,22 +36,33 @@ const WEIGHTS: [(Call, usize); 17] = [
     (Call::HolderSubkey, 10),
 ];
 
+/// The same for a family with pages.
+const ON_PAGES: [(Call, usize); 2] = [(Call::SealPage, 2), (Call::OpenPage, 3)];
+
 /// Draws a case.
 pub fn draw(family: &Family, oracle: &mut Oracle, random: &mut Random) -> Case {
-    let call = some_call(random);
+    let (weights, spoilt) = match family.pages.is_empty() {
+        true => (&WEIGHTS[..], SPOILT),
+        false => (&ON_PAGES[..], SPOILT_ON_PAGES),
+    };
+    let call = some_call(weights, random);
     let mut case = right_case(call, family, oracle, random);
-    for _ in 0..random.pick(&[0, 0, 0, 0, 0, 1, 1, 1, 2, 3]) {
+    for _ in 0..random.pick(&spoilt) {
         let argument = random.pick(call.arguments());
         spoil(&mut case, argument, random);
     }
-    case.shared = case.shared && case.key.starts_with(&case.block);
+    let shared = match Call::ON_PAGES.contains(&call) {
+        true => &case.second_key,
+        false => &case.block,
+    };
+    case.shared = case.shared && case.key.starts_with(shared);
     case
 }
 
-fn some_call(random: &mut Random) -> Call {
-    let total = WEIGHTS.iter().map(|pair| pair.1).sum();
+fn some_call(weights: &[(Call, usize)], random: &mut Random) -> Call {
+    let total = weights.iter().map(|pair| pair.1).sum();
     let mut left = random.below(total);
-    for (call, weight) in WEIGHTS {
+    for &(call, weight) in weights {
         if left < weight {
             return call;
         }
@@ -81,6 +97,8 @@ fn right_case(call: Call, family: &Family, oracle: &mut Oracle, random: &mut Ran
             case.holder = some_holder(family, oracle, random);
             case.stage = some_end(&case.holder, random);
         }
+        Call::SealPage => paging::with_payload(&mut case, family, random),
+        Call::OpenPage => paging::with_page(&mut case, family, oracle, random),
     }
     if call.arguments().contains(&Argument::Out) {
         case.out = needed(&case) as usize + some_rest(random);
@@ -88,9 +106,9 @@ fn right_case(call: Call, family: &Family, oracle: &mut Oracle, random: &mut Ran
     case
 }
 
-/// The bytes that an output has more than it needs: none, a few, or so many that a byte cannot hold
-/// their number.
-fn some_rest(random: &mut Random) -> usize {
+/// The bytes that an output or a scratch has more than it needs: none, a few, or so many that a byte
+/// cannot hold their number.
+pub fn some_rest(random: &mut Random) -> usize {
     match random.below(8) {
         0 => 1,
         1 => random.below(40),

@@ -8,6 +8,8 @@ use crate::call::Call;
 use crate::case::Case;
 use crate::holders::{self, HOLDER_BYTES};
 use crate::oracle::{Oracle, Way};
+use crate::order::{number, LATE_11};
+use crate::pages::{self, Keys, PAGE_BYTES, PAYLOAD_BYTES, SCRATCH_BYTES};
 use crate::rolls::{self, count, in_standing, is_contractor, ROLL_BYTES};
 
 /// The bytes of a block, and of a grant.
@@ -32,16 +34,22 @@ pub const OVERWRITING: u32 = 2;
 /// The reasons of a check that are seen in what was deciphered.
 pub const SEEN_IN_A_GRANT: [u32; 5] = [8, 9, 10, 20, 23];
 
+/// The reasons of opening that are seen with the keys only. Where one of them is given, the scratch is
+/// cleared all the same.
+pub const SEEN_IN_A_PAGE: [u32; 2] = [13, LATE_11];
+
 /// What a call does.
 #[derive(Clone, Debug, PartialEq, Eq)]
 pub struct Effect {
-    pub answer: u32,
+    pub answer: u64,
     /// What it writes to the output, from the start.
     pub written: Vec<u8>,
     /// The roll after the call.
     pub roll: Vec<u8>,
     /// The holder after the call.
     pub holder: Vec<u8>,
+    /// What it leaves in the scratch, from the start: zeros, or nothing where it does not touch it.
+    pub scratch: Vec<u8>,
 }
 
 /// What a call has to do, and all reasons for which it has to refuse, in their order.
@@ -62,7 +70,7 @@ pub fn expected(case: &Case, oracle: &mut Oracle) -> Expected {
         _ => Vec::new(),
     };
     let effect = match reasons.first() {
-        Some(&reason) => only_answered(case, reason),
+        Some(&reason) => refused(case, reason),
         None => success(case, &grants, oracle),
     };
     Expected {
@@ -72,13 +80,23 @@ pub fn expected(case: &Case, oracle: &mut Oracle) -> Expected {
     }
 }
 
-/// What a call does that answers and writes nothing. Every refusal is like that.
-pub fn only_answered(case: &Case, answer: u32) -> Effect {
+/// What a call does that refuses for a reason.
+pub fn refused(case: &Case, reason: u32) -> Effect {
+    let mut effect = only_answered(case, u64::from(number(reason)));
+    if SEEN_IN_A_PAGE.contains(&reason) {
+        effect.scratch = vec![0; SCRATCH_BYTES];
+    }
+    effect
+}
+
+/// What a call does that answers and writes nothing.
+pub fn only_answered(case: &Case, answer: u64) -> Effect {
     Effect {
         answer,
         written: Vec::new(),
         roll: case.roll.clone(),
         holder: case.holder.clone(),
+        scratch: Vec::new(),
     }
 }
 
@@ -99,6 +117,8 @@ pub fn needed(case: &Case) -> u64 {
         Call::Stage => STAGE_BYTES as u64,
         Call::HolderMake => HOLDER_BYTES as u64,
         Call::CheckQueue => (case.block.len() / BLOCK_BYTES) as u64,
+        Call::SealPage => PAGE_BYTES as u64,
+        Call::OpenPage => PAYLOAD_BYTES as u64,
         Call::Check | Call::Enter | Call::Withdraw => 0,
         Call::HolderForward | Call::HolderBack | Call::HolderWalk => 0,
         _ => BLOCK_BYTES as u64,
@@ -108,39 +128,95 @@ pub fn needed(case: &Case) -> u64 {
 /// All reasons that hold, in the order of the call. Left out is what has no meaning because of
 /// another reason.
 fn reasons(case: &Case, oracle: &mut Oracle) -> Vec<u32> {
-    let opened = deciphers(case).then(|| opened(case, &case.block, oracle));
+    let seen = seen_with_key(case, oracle);
     let order = case.call.reasons().iter().copied();
-    let holding = order.filter(|&reason| match case.call {
-        Call::Check if SEEN_IN_A_GRANT.contains(&reason) => opened
-            .as_ref()
-            .map_or(false, |grant| holds_of_grant(case, grant.as_ref(), reason)),
-        _ => holds(case, reason),
+    let holding = order.filter(|reason| match case.call {
+        Call::Check if SEEN_IN_A_GRANT.contains(reason) => seen.contains(reason),
+        Call::OpenPage if SEEN_IN_A_PAGE.contains(reason) => seen.contains(reason),
+        _ => holds(case, *reason),
     });
     holding.collect()
 }
 
-/// Whether the call of a case has something to decipher, and what it takes to do so.
-fn deciphers(case: &Case) -> bool {
-    case.call == Call::Check && ![1, 2, 3].iter().any(|&reason| holds(case, reason))
+/// The reasons that hold and are seen only with a key, where the case gives what it takes to see
+/// them: a key of a right length and an allowed round count, and something that is long enough.
+fn seen_with_key(case: &Case, oracle: &mut Oracle) -> Vec<u32> {
+    match case.call {
+        Call::Check if ![1, 2, 3].iter().any(|&reason| holds(case, reason)) => {
+            let grant = opened(case, &case.block, oracle);
+            let reasons = SEEN_IN_A_GRANT.into_iter();
+            let holding = reasons.filter(|&one| holds_of_grant(case, grant.as_ref(), one));
+            holding.collect()
+        }
+        Call::OpenPage if case.block.len() == PAGE_BYTES => {
+            keys(case).map_or(Vec::new(), |keys| seen_in_page(&keys, &case.block, oracle))
+        }
+        _ => Vec::new(),
+    }
 }
 
-/// Whether a reason holds that can be seen without deciphering.
+/// Whether a reason holds that can be seen without a key.
 fn holds(case: &Case, reason: u32) -> bool {
     match reason {
-        1 => allowed_rounds(case.key.len()).is_none(),
-        2 => allowed_rounds(case.key.len()).map_or(false, |range| !range.contains(&case.rounds)),
+        1 => wrong_key(case),
+        2 => rounds_of(case).map_or(false, |range| !range.contains(&case.rounds)),
         3 => wrong_input(case),
-        4 => (case.out as u64) < needed(case),
+        4 => (case.out as u64) < needed(case) || short_scratch(case),
         5 if case.call == Call::Run => wrong_list(case.list.len()),
         5 => stages(case).map_or(false, |stages| case.stage as usize >= stages),
         6 => !is_contractor(case.contractor),
         7 => case.right != READING && case.right != OVERWRITING,
+        11 => !pages::has_form(&case.block),
+        12 => case.block.len() > PAYLOAD_BYTES,
         20 => own_count(case).map_or(false, |count| !in_standing(count)),
         21 => own_count(case).map_or(false, in_standing),
         22 => own_count(case).map_or(false, |count| count >= SPENT),
         24 => !holders::is_whole(&case.holder),
-        other => panic!("reason {other} is not seen without deciphering"),
+        other => panic!("reason {other} is not seen without a key"),
     }
+}
+
+/// Whether a key has a wrong length, or the two keys for a page are equal or of unequal lengths.
+fn wrong_key(case: &Case) -> bool {
+    match is_on_page(case) {
+        true => rounds_of(case).is_none() || case.key == case.second_key,
+        false => rounds_of(case).is_none(),
+    }
+}
+
+/// The allowed round counts, where the key has a right length. Of two keys for a page, both have it.
+fn rounds_of(case: &Case) -> Option<RangeInclusive<u32>> {
+    let one_length = !is_on_page(case) || case.key.len() == case.second_key.len();
+    allowed_rounds(case.key.len()).filter(|_| one_length)
+}
+
+fn is_on_page(case: &Case) -> bool {
+    Call::ON_PAGES.contains(&case.call)
+}
+
+fn short_scratch(case: &Case) -> bool {
+    is_on_page(case) && case.scratch < SCRATCH_BYTES
+}
+
+/// The two keys of a case on a page, where the lengths and the round count are right. Equal keys are
+/// two keys too: what they make of a page is known, though no call does it.
+fn keys(case: &Case) -> Option<Keys<'_>> {
+    rounds_of(case)?.contains(&case.rounds).then_some(Keys {
+        first: &case.key,
+        second: &case.second_key,
+        rounds: case.rounds,
+    })
+}
+
+/// The reasons that hold of a page of 512 bytes and are seen with the keys only. A used count that is
+/// too high leaves no byte unused.
+fn seen_in_page(keys: &Keys<'_>, page: &[u8], oracle: &mut Oracle) -> Vec<u32> {
+    let unused = pages::used(page).min(PAYLOAD_BYTES);
+    let holds = |&reason: &u32| match reason {
+        13 => !keys.is_checked(page, oracle),
+        _ => !keys.is_zero_from(page, unused, oracle),
+    };
+    SEEN_IN_A_PAGE.into_iter().filter(holds).collect()
 }
 
 /// Whether the block, the grant, the queue or the roll has a wrong length.
@@ -237,12 +313,31 @@ fn success(case: &Case, grants: &[Vec<u32>], oracle: &mut Oracle) -> Effect {
         Call::HolderMake => effect.written = oracle.holder(key, 0),
         Call::HolderForward | Call::HolderBack | Call::HolderWalk => {
             let (answer, number) = moved(case);
-            effect.answer = answer;
+            effect.answer = u64::from(answer);
             effect.holder = oracle.holder(&oracle.key_held(&case.holder), number);
         }
         Call::HolderSubkey => {
             let key = oracle.key_held(&case.holder);
             effect.written = oracle.subkey(&key, holders::number(&case.holder));
+        }
+        Call::SealPage | Call::OpenPage => effect = on_page(case, oracle),
+    }
+    effect
+}
+
+/// What a call on a page does where no reason holds.
+fn on_page(case: &Case, oracle: &mut Oracle) -> Effect {
+    let keys = keys(case).expect("no reason holds of the keys");
+    let mut effect = only_answered(case, 0);
+    effect.scratch = vec![0; SCRATCH_BYTES];
+    match case.call {
+        Call::SealPage => {
+            let header = pages::header(case.size_block, case.page_number, case.block.len());
+            effect.written = keys.sealed(&header, &case.block, oracle);
+        }
+        _ => {
+            effect.answer = pages::answer(&case.block);
+            effect.written = keys.payload(&case.block, oracle);
         }
     }
     effect
@@ -286,7 +381,7 @@ fn byte(reasons: &[u32]) -> u8 {
 }
 
 /// The answer to a grant that opens: it has the right asked for, whichever the grant has.
-fn opening(case: &Case, oracle: &mut Oracle) -> u32 {
+fn opening(case: &Case, oracle: &mut Oracle) -> u64 {
     let grant = opened(case, &case.block, oracle).expect("a grant that opens is a grant");
-    1000 * case.right + u32::from(grant.contractor)
+    u64::from(1000 * case.right + u32::from(grant.contractor))
 }

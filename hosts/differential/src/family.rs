@@ -6,6 +6,7 @@ use curupira_reference::roll::Grant;
 use crate::expect::{allowed_rounds, BLOCK_BYTES};
 use crate::holders;
 use crate::oracle::{Oracle, Way};
+use crate::paging::{self, Sealed};
 use crate::random::Random;
 use crate::rolls::{self, count, model, set_count, ROLL_BYTES};
 
@@ -30,6 +31,9 @@ pub struct Family {
     /// Grants for the size block of the first grant that is held, for any contractors, and forged
     /// ones.
     pub beside: Vec<Vec<u8>>,
+    /// The second key for pages.
+    pub second_key: Vec<u8>,
+    pub pages: Vec<Sealed>,
 }
 
 /// A grant, the roll with which it opens, and what was made of the grant.
@@ -43,6 +47,14 @@ pub struct Held {
 }
 
 impl Family {
+    /// Draws a family with pages. All its cases are on them.
+    pub fn with_pages(oracle: &mut Oracle, random: &mut Random) -> Self {
+        let mut family = Family::new(oracle, random);
+        family.second_key = paging::second_key(&family.key, random);
+        family.pages = paging::draw_pages(&family, oracle, random);
+        family
+    }
+
     /// Draws a family.
     pub fn new(oracle: &mut Oracle, random: &mut Random) -> Self {
         let key_length = random.pick(&[12, 18, 24]);
@@ -53,6 +65,8 @@ impl Family {
             rolls: (0..ROLLS).map(|_| roll(random)).collect(),
             held: Vec::new(),
             beside: Vec::new(),
+            second_key: Vec::new(),
+            pages: Vec::new(),
         };
         family.held = (0..HELD).map(|_| family.hold(oracle, random)).collect();
         family.beside = (0..BESIDE)

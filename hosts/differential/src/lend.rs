@@ -22,6 +22,7 @@ pub struct Bytes {
 #[derive(Clone, Copy, Debug)]
 pub struct Lent {
     pub key: Bytes,
+    pub second_key: Bytes,
     pub rounds: u32,
     pub stage: u32,
     pub roll: Bytes,
@@ -31,11 +32,14 @@ pub struct Lent {
     pub contractor: u32,
     pub size_block: u32,
     pub right: u32,
+    pub page_number: u16,
+    pub scratch: Bytes,
     pub out: Bytes,
 }
 
-/// Something that makes the calls: the archive, or what stands for it in a test.
-pub type Library<'a> = dyn Fn(Call, &Lent) -> u32 + Sync + 'a;
+/// Something that makes the calls: the archive, or what stands for it in a test. Its answer has the 64
+/// bits that the opening of a page needs.
+pub type Library<'a> = dyn Fn(Call, &Lent) -> u64 + Sync + 'a;
 
 /// Bytes between guard bytes.
 pub struct Guarded {
@@ -97,35 +101,44 @@ fn guard(place: usize) -> u8 {
 /// All that is lent for a case.
 pub struct Loan {
     pub key: Guarded,
+    pub second_key: Guarded,
     pub roll: Guarded,
     pub holder: Guarded,
     pub list: Guarded,
     pub block: Guarded,
+    pub scratch: Guarded,
     pub out: Guarded,
 }
 
 impl Loan {
-    /// What is lent for a case; `out` is what stands in the output before the call.
-    pub fn new(case: &Case, out: &[u8], random: &mut Random) -> Self {
+    /// What is lent for a case; `scratch` and `out` are what stands in the scratch and in the output
+    /// before the call.
+    pub fn new(case: &Case, scratch: &[u8], out: &[u8], random: &mut Random) -> Self {
         Loan {
             key: Guarded::new(&case.key, random),
+            second_key: Guarded::new(&case.second_key, random),
             roll: Guarded::new(&case.roll, random),
             holder: Guarded::new(&case.holder, random),
             list: Guarded::new(&case.list, random),
             block: Guarded::new(&case.block, random),
+            scratch: Guarded::new(scratch, random),
             out: Guarded::new(out, random),
         }
     }
 
     /// Makes the case's call. Its answer.
-    pub fn call(&mut self, case: &Case, library: &Library<'_>) -> u32 {
+    pub fn call(&mut self, case: &Case, library: &Library<'_>) -> u64 {
         let key = self.key.lend();
+        let mut second_key = self.second_key.lend();
         let mut block = self.block.lend();
-        if case.shared {
-            block.start = key.start;
+        match (case.shared, Call::ON_PAGES.contains(&case.call)) {
+            (true, false) => block.start = key.start,
+            (true, true) => second_key.start = key.start,
+            (false, _) => {}
         }
         let lent = Lent {
             key,
+            second_key,
             rounds: case.rounds,
             stage: case.stage,
             roll: self.roll.lend(),
@@ -135,6 +148,8 @@ impl Loan {
             contractor: case.contractor,
             size_block: case.size_block,
             right: case.right,
+            page_number: case.page_number,
+            scratch: self.scratch.lend(),
             out: self.out.lend(),
         };
         library(case.call, &lent)

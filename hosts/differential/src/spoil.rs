@@ -5,6 +5,7 @@ use crate::case::Case;
 use crate::expect::{needed, BLOCK_BYTES, QUEUE_GRANTS};
 use crate::family::{self, one_bit_changed};
 use crate::holders::HOLDER_BYTES;
+use crate::paging;
 use crate::random::Random;
 
 /// Lengths of no key. The last one differs from 12 by 256.
@@ -34,7 +35,11 @@ const LIST_LENGTHS: [usize; 14] = [
 /// Spoils an argument.
 pub fn spoil(case: &mut Case, argument: Argument, random: &mut Random) {
     match argument {
+        Argument::Key if Call::ON_PAGES.contains(&case.call) => {
+            paging::spoil_first_key(case, random);
+        }
         Argument::Key => spoil_key(case, random),
+        Argument::SecondKey => paging::spoil_second_key(case, random),
         Argument::Rounds => case.rounds = other_rounds(case.rounds, random),
         Argument::Stage => case.stage = other_stage(case, random),
         Argument::Roll => {
@@ -51,6 +56,12 @@ pub fn spoil(case: &mut Case, argument: Argument, random: &mut Random) {
         Argument::Contractor => case.contractor = other_contractor(random),
         Argument::SizeBlock => case.size_block = other_size_block(case.size_block, random),
         Argument::Right => case.right = other_right(case.right, random),
+        Argument::PageNumber => {
+            case.page_number = paging::other_page_number(case.page_number, random);
+        }
+        Argument::Payload => paging::spoil_payload(&mut case.block, random),
+        Argument::Page => paging::spoil_page(&mut case.block, random),
+        Argument::Scratch => case.scratch = paging::shorter_scratch(random),
         Argument::Out => case.out = shorter_output(case, random),
     }
 }
@@ -70,7 +81,7 @@ fn spoil_key(case: &mut Case, random: &mut Random) {
 
 /// Cuts bytes, or adds random ones. Those that are long for no other reason end in one byte, to
 /// save time.
-fn resize(bytes: &mut Vec<u8>, length: usize, random: &mut Random) {
+pub fn resize(bytes: &mut Vec<u8>, length: usize, random: &mut Random) {
     let grown = length.saturating_sub(bytes.len());
     bytes.truncate(length);
     if grown < 1000 {
@@ -234,7 +245,7 @@ fn other_right(right: u32, random: &mut Random) -> u32 {
 
 /// The length of an output that is too short. None is for a queue of no grants.
 fn shorter_output(case: &Case, random: &mut Random) -> usize {
-    let needed = needed(case).min(400) as usize;
+    let needed = needed(case).min(512) as usize;
     match random.below(4) {
         0 => 0,
         1 => 1,

@@ -6,12 +6,12 @@ use std::fmt;
 
 use crate::call::Call;
 use crate::expect::{Expected, SEEN_IN_A_GRANT};
+use crate::order::{self, LATE_11};
 
-/// The answers that have a column. 0 stands for every answer that is no refusal.
-const COLUMNS: [u32; 16] = [0, 1, 2, 3, 4, 5, 6, 7, 8, 9, 10, 20, 21, 22, 23, 24];
-
-/// The answers from which on a grant opens, or a holder walked.
-const DONE: u32 = 1000;
+/// The reasons that have a column. 0 stands for every answer that is no refusal.
+const COLUMNS: [u32; 20] = [
+    0, 1, 2, 3, 4, 5, 6, 7, 8, 9, 10, 11, 12, 13, LATE_11, 20, 21, 22, 23, 24,
+];
 
 /// A line of the table: a call, or a grant in a queue that is not refused as a whole, with its byte
 /// as the answer.
@@ -63,7 +63,7 @@ impl Line {
 /// Numbers of cases, and of grants in queues.
 #[derive(Clone, Debug, Default, PartialEq, Eq)]
 pub struct Tally {
-    /// By the line and the answer.
+    /// By the line and the reason that is given.
     answers: BTreeMap<(Line, u32), u64>,
     /// By the line, the reason that is given, and another one that holds too.
     pairs: BTreeMap<(Line, u32, u32), u64>,
@@ -74,18 +74,14 @@ pub struct Tally {
 impl Tally {
     /// Counts a case.
     pub fn count(&mut self, call: Call, expected: &Expected) {
-        let answer = match expected.effect.answer {
-            DONE.. => 0,
-            answer => answer,
-        };
-        self.count_line(Line::Of(call), answer, &expected.reasons);
+        self.count_line(Line::Of(call), &expected.reasons);
         for reasons in &expected.grants {
-            let byte = reasons.first().copied().unwrap_or(0);
-            self.count_line(Line::Queued, byte, reasons);
+            self.count_line(Line::Queued, reasons);
         }
     }
 
-    fn count_line(&mut self, line: Line, answer: u32, reasons: &[u32]) {
+    fn count_line(&mut self, line: Line, reasons: &[u32]) {
+        let answer = reasons.first().copied().unwrap_or(0);
         *self.answers.entry((line, answer)).or_default() += 1;
         for (first, other) in pairs_of(reasons) {
             *self.pairs.entry((line, first, other)).or_default() += 1;
@@ -134,11 +130,12 @@ impl Tally {
             let name = line.name();
             for answer in [vec![0], line.reasons()].concat() {
                 if self.answered(line, answer) == 0 {
-                    missing.push(format!("{name} with answer {answer}"));
+                    missing.push(format!("{name} with answer {}", order::name(answer)));
                 }
             }
             for (first, other) in line.pairs() {
                 if self.together(line, first, other) == 0 {
+                    let [first, other] = [first, other].map(order::name);
                     missing.push(format!("{name} with reasons {first} and {other} together"));
                 }
             }
@@ -184,8 +181,8 @@ impl Tally {
 impl fmt::Display for Tally {
     fn fmt(&self, out: &mut fmt::Formatter<'_>) -> fmt::Result {
         write!(out, "{:<20}{:>9}", "call", "done")?;
-        for answer in &COLUMNS[1..] {
-            write!(out, "{answer:>9}")?;
+        for &answer in &COLUMNS[1..] {
+            write!(out, "{:>9}", order::name(answer))?;
         }
         writeln!(out, "{:>11}", "cases")?;
         for line in Line::all() {

@@ -18,6 +18,9 @@ use crate::tally::Tally;
 /// The cases of a family.
 pub const FAMILY: u64 = 128;
 
+/// One family in so many has pages. They are slow: it takes 84 blocks to seal one.
+const PAGED: u64 = 64;
+
 /// The cases that are kept to be printed, if they differ.
 pub const KEPT: usize = 10;
 
@@ -117,13 +120,22 @@ pub fn work(plan: &Plan, library: &Library<'_>) -> Outcome {
 pub fn family_cases(seed: u64, family: u64, cases: u64) -> Vec<(Case, Expected)> {
     let mut random = Random::new(seed, 2 * family);
     let mut oracle = Oracle::new();
-    let family = Family::new(&mut oracle, &mut random);
+    let family = match (family + 1) % PAGED {
+        0 => Family::with_pages(&mut oracle, &mut random),
+        _ => Family::new(&mut oracle, &mut random),
+    };
     let one = |_| {
         let case = draw(&family, &mut oracle, &mut random);
         let expected = expected(&case, &mut oracle);
         (case, expected)
     };
     (0..cases).map(one).collect()
+}
+
+/// The cases of a family with pages, and what is expected of each. They are counted from 0 among such
+/// families.
+pub fn page_cases(seed: u64, paged: u64) -> Vec<(Case, Expected)> {
+    family_cases(seed, PAGED * (paged + 1) - 1, FAMILY)
 }
 
 /// Draws the cases of one family, makes their calls and compares.
@@ -168,7 +180,9 @@ fn text(effect: &Effect) -> String {
         written,
         roll,
         holder,
+        scratch,
     } = effect;
-    let [written, roll, holder] = [written, roll, holder].map(|bytes| hex(bytes));
-    format!("answer {answer}, out {written}, roll {roll}, holder {holder}")
+    let bytes = [written, roll, holder, scratch].map(|bytes| hex(bytes));
+    let [written, roll, holder, scratch] = bytes;
+    format!("answer {answer}, out {written}, roll {roll}, holder {holder}, scratch {scratch}")
 }

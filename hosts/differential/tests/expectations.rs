@@ -5,9 +5,12 @@ use gordzila_differential::case::Case;
 use gordzila_differential::expect::{expected, Effect, OVERWRITING, READING};
 use gordzila_differential::opinion::second;
 use gordzila_differential::oracle::{Oracle, Way};
-use gordzila_differential::order::read;
+use gordzila_differential::order::{name, number, read, LATE_11};
 use gordzila_differential::rolls::set_count;
 use gordzila_differential::tally::Line;
+
+#[path = "expectations/pages.rs"]
+mod pages;
 
 /// Bytes from hex.
 fn hex(text: &str) -> Vec<u8> {
@@ -30,7 +33,7 @@ fn effect(case: &Case) -> Effect {
     effect
 }
 
-fn answer(case: &Case) -> u32 {
+fn answer(case: &Case) -> u64 {
     effect(case).answer
 }
 
@@ -95,6 +98,7 @@ fn right(call: Call) -> Case {
         Call::Issue | Call::Check | Call::CheckQueue | Call::Withdraw => roll_case(call, 7, 1),
         Call::Enter => roll_case(call, 7, 0),
         _ if HOLDING.contains(&call) => holder_case(call, 12, 0, &[1; 12]),
+        _ if Call::ON_PAGES.contains(&call) => pages::page_case(call),
         _ => block_case(call, 12, 10),
     };
     match call {
@@ -131,6 +135,7 @@ fn grant_with(right: u8) -> Vec<u8> {
 /// Makes a reason hold of a right case, and with it as few others as can be.
 fn spoil(case: &mut Case, reason: u32) {
     match reason {
+        1 if Call::ON_PAGES.contains(&case.call) => case.second_key = case.key.clone(),
         1 => case.key.push(0),
         2 => case.rounds = 99,
         3 if case.roll.is_empty() => case.block.push(0),
@@ -143,6 +148,10 @@ fn spoil(case: &mut Case, reason: u32) {
         8 => case.block[0] ^= 1,
         9 => case.size_block += 1,
         10 => case.block = grant_with(READING as u8),
+        11 => case.block[8] ^= 1,
+        12 => case.block.resize(493, 1),
+        13 => case.block[511] ^= 1,
+        LATE_11 => case.block = pages::filled_page(),
         20 => set_count(&mut case.roll, 7, 2),
         21 => set_count(&mut case.roll, 7, 1),
         22 => set_count(&mut case.roll, 7, 65_534),
@@ -158,6 +167,7 @@ fn a_right_case_is_done() {
         let done = match call {
             Call::Check => 2007,
             Call::HolderWalk => 2005,
+            Call::OpenPage => 1 << 63 | 100 << 48 | 7 << 32 | 300,
             _ => 0,
         };
         assert_eq!(answer(&right(call)), done, "{}", call.name());
@@ -172,7 +182,7 @@ fn each_reason_can_hold() {
             spoil(&mut case, reason);
             let found = expected(&case, &mut Oracle::new()).reasons;
             assert!(found.contains(&reason), "{case}: {reason}");
-            assert_eq!(answer(&case), found[0], "{case}");
+            assert_eq!(answer(&case), u64::from(number(found[0])), "{case}");
         }
     }
 }
@@ -187,7 +197,8 @@ fn of_two_reasons_the_one_that_comes_first_is_given() {
             let found = expected(&case, &mut Oracle::new()).reasons;
             let both = found.contains(&first) && found.contains(&other);
             assert!(both, "{case}: {first} and {other}");
-            assert_eq!(answer(&case), first, "{case}");
+            assert_eq!(found[0], first, "{case}");
+            assert_eq!(answer(&case), u64::from(number(first)), "{case}");
         }
     }
 }
@@ -214,12 +225,14 @@ fn so_many_pairs_of_reasons_can_hold_together() {
         (Call::HolderBack, 0),
         (Call::HolderWalk, 1),
         (Call::HolderSubkey, 1),
+        (Call::SealPage, 6),
+        (Call::OpenPage, 15 - 2),
     ];
     for (call, pairs) in table {
         assert_eq!(call.pairs().len(), pairs, "{}", call.name());
     }
     let all: usize = Call::ALL.iter().map(|call| call.pairs().len()).sum();
-    assert_eq!(all, 68);
+    assert_eq!(all, 87);
 }
 
 #[test]
@@ -242,11 +255,12 @@ fn these_pairs_of_reasons_can_hold_of_a_queue_and_in_a_grant_of_it() {
 
 #[test]
 fn the_table_of_orders_is_read() {
-    let table = "# call | by value | in C\n\nlend | 2 1 | same\nturn | - | 10 3 2\n";
-    assert_eq!(read(table, "lend"), [2, 1]);
+    let table = "# call | by value | in C\n\nlend | 2 1 2 | same\nturn | - | 10 3 2\n";
+    assert_eq!(read(table, "lend"), [2, 1, 102]);
     assert_eq!(read(table, "turn"), [10, 3, 2]);
     for broken in [
         "lend | 1 2",
+        "lend | 1 100 | same",
         "lend | 1 x | same",
         "lend | 1 | -",
         "send | 1 | 1",
@@ -254,6 +268,14 @@ fn the_table_of_orders_is_read() {
         let read = std::panic::catch_unwind(|| read(broken, "lend"));
         assert!(read.is_err(), "{broken}");
     }
+}
+
+/// What stands a second time in an order is another reason, and is given by the same number.
+#[test]
+fn a_late_reason_has_a_name_of_its_own() {
+    assert_eq!(Call::OpenPage.reasons(), [1, 2, 4, 11, 13, LATE_11]);
+    assert_eq!([11, LATE_11].map(number), [11, 11]);
+    assert_eq!([11, LATE_11].map(name), ["11", "late 11"]);
 }
 
 #[test]
@@ -590,7 +612,7 @@ fn ten_holds_only_where_overwriting_is_asked_of_a_reading_grant() {
         set_count(&mut case.roll, 7, 2);
         let found = expected(&case, &mut Oracle::new()).reasons;
         assert_eq!(found, reasons, "{in_grant}, asked for {asked}");
-        assert_eq!(answer(&case), reasons[0]);
+        assert_eq!(answer(&case), u64::from(reasons[0]));
     }
 }
 
@@ -680,7 +702,7 @@ fn each_byte_of_a_queue_is_what_the_single_check_says() {
             case.block = grant.to_vec();
             match answer(&case) {
                 1000.. => assert_eq!(byte, 0, "{case}"),
-                refusal => assert_eq!(u32::from(byte), refusal, "{case}"),
+                refusal => assert_eq!(u64::from(byte), refusal, "{case}"),
             }
         }
     }
@@ -742,7 +764,7 @@ fn a_queue_needs_a_byte_for_each_grant() {
         let found = expected(&case, &mut Oracle::new()).reasons;
         assert_eq!(found, reasons, "{grants} and {out}");
         let effect = effect(&case);
-        assert_eq!(effect.answer, reasons.first().copied().unwrap_or(0));
+        assert_eq!(effect.answer, reasons.first().map_or(0, |&one| one.into()));
         let written = if reasons.is_empty() { grants } else { 0 };
         assert_eq!(effect.written, vec![0; written], "{grants} and {out}");
     }
@@ -755,7 +777,7 @@ fn a_queue_of_no_grants_is_tried_too() {
         let mut case = queue_case(0, out);
         assert_eq!(answer(&case), 0);
         spoil(&mut case, reason);
-        assert_eq!(answer(&case), reason, "{case}");
+        assert_eq!(answer(&case), u64::from(reason), "{case}");
     }
     for asked in [0, 3, 255, 256, 257, 258, 65_538, u32::MAX] {
         for grants in [0, 1, 64] {

@@ -7,36 +7,50 @@ use gordzila_differential::archive::archive;
 use gordzila_differential::call::{Argument, Argument as A, Call};
 use gordzila_differential::case::Case;
 use gordzila_differential::compare::differences;
-use gordzila_differential::expect::{needed, Effect, Expected};
+use gordzila_differential::expect::{needed, refused, Effect, Expected};
 use gordzila_differential::holders::HOLDER_BYTES;
 use gordzila_differential::lend::{Bytes, Lent, Library};
 use gordzila_differential::random::Random;
-use gordzila_differential::work::{family_cases, FAMILY};
+use gordzila_differential::work::{family_cases, page_cases, FAMILY};
 
+#[path = "mutants/pages.rs"]
+mod pages;
 #[path = "mutants/queue.rs"]
 mod queue;
 
 const SEED: u64 = 7;
 const FAMILIES: u64 = 200;
 
+/// Families with pages, three of which are among the others.
+const PAGE_FAMILIES: u64 = 24;
+
 /// The cases on which all is tried. They are drawn once, by the test that comes first.
 fn cases() -> &'static [(Case, Expected)] {
     static CASES: Mutex<Option<&[(Case, Expected)]>> = Mutex::new(None);
     let mut cases = CASES.lock().expect("no test panics while it draws");
     cases.get_or_insert_with(|| {
-        let families = 0..FAMILIES;
-        let drawn = families.flat_map(|family| family_cases(SEED, family, FAMILY));
-        drawn.collect::<Vec<_>>().leak()
+        let drawn = (0..FAMILIES).flat_map(|family| family_cases(SEED, family, FAMILY));
+        let others = (3..PAGE_FAMILIES).flat_map(|paged| page_cases(SEED, paged));
+        drawn.chain(others).collect::<Vec<_>>().leak()
     })
 }
 
-/// How many cases of a call differ with a library.
+/// How many cases of a call differ with a library. There are more on pages than are tried here, which
+/// would take long.
 fn found(call: Call, library: &Library<'_>) -> usize {
     let mut random = Random::new(SEED, 0);
-    let cases = cases().iter().filter(|pair| pair.0.call == call);
+    let cases = cases()[..(FAMILIES * FAMILY) as usize].iter();
     cases
+        .filter(|pair| pair.0.call == call)
         .filter(|(case, expected)| differs(case, &expected.effect, library, &mut random))
         .count()
+}
+
+/// Whether a case of a call differs with a library. No more cases are tried than that takes.
+fn is_found(call: Call, library: &Library<'_>) -> bool {
+    let mut random = Random::new(SEED, 0);
+    let mut cases = cases().iter().filter(|pair| pair.0.call == call);
+    cases.any(|(case, expected)| differs(case, &expected.effect, library, &mut random))
 }
 
 fn differs(case: &Case, effect: &Effect, library: &Library<'_>, random: &mut Random) -> bool {
@@ -45,7 +59,7 @@ fn differs(case: &Case, effect: &Effect, library: &Library<'_>, random: &mut Ran
 
 /// Tries a library that says with its answer whether it did something wrong: in at least one
 /// case of the call it did, and in each such case, and no other, it is found out.
-fn always_found(call: Call, library: impl Fn(&Lent) -> (u32, bool) + Sync) {
+fn always_found(call: Call, library: impl Fn(&Lent) -> (u64, bool) + Sync) {
     let wrong = AtomicUsize::new(0);
     let counting = |_, lent: &Lent| {
         let (answer, is_wrong) = library(lent);
@@ -79,10 +93,12 @@ fn end(bytes: Bytes) -> isize {
 fn input(argument: Argument, lent: &Lent) -> Option<Bytes> {
     match argument {
         Argument::Key => Some(lent.key),
+        Argument::SecondKey => Some(lent.second_key),
         Argument::Roll => Some(lent.roll),
         Argument::Holder => Some(lent.holder),
         Argument::List => Some(lent.list),
         Argument::Block | Argument::Grant | Argument::Grants => Some(lent.block),
+        Argument::Payload | Argument::Page => Some(lent.block),
         _ => None,
     }
 }
@@ -91,12 +107,15 @@ fn input(argument: Argument, lent: &Lent) -> Option<Bytes> {
 fn inputs() -> impl Iterator<Item = (Call, Argument)> {
     let bytes = [
         A::Key,
+        A::SecondKey,
         A::Roll,
         A::Holder,
         A::List,
         A::Block,
         A::Grant,
         A::Grants,
+        A::Payload,
+        A::Page,
     ];
     let all = Call::ALL.into_iter().flat_map(|call| {
         let arguments = call.arguments().iter();
@@ -122,7 +141,7 @@ fn writing() -> impl Iterator<Item = Call> {
 #[test]
 fn the_archive_does_not_differ() {
     for call in Call::ALL {
-        assert_eq!(found(call, &archive), 0, "{}", call.name());
+        assert!(!is_found(call, &archive), "{}", call.name());
     }
 }
 
@@ -147,16 +166,18 @@ fn a_success_that_should_be_a_refusal_is_found() {
 fn a_wrong_byte_of_an_output_is_found_at_every_place() {
     for call in writing() {
         let turn = AtomicUsize::new(0);
-        always_found(call, |lent| {
-            let answer = archive(call, lent);
-            let is_wrong = answer == 0 && written(call, lent) > 0;
-            if is_wrong {
-                let place = turn.fetch_add(1, Ordering::Relaxed) % written(call, lent);
-                poke(lent.out, place as isize);
-            }
-            (answer, is_wrong)
-        });
-        assert!(turn.into_inner() > 288);
+        // As often as it takes for each place to have its turn.
+        while turn.load(Ordering::Relaxed) <= 512 {
+            always_found(call, |lent| {
+                let answer = archive(call, lent);
+                let is_wrong = is_done(answer) && written(call, lent) > 0;
+                if is_wrong {
+                    let place = turn.fetch_add(1, Ordering::Relaxed) % written(call, lent);
+                    poke(lent.out, place as isize);
+                }
+                (answer, is_wrong)
+            });
+        }
     }
 }
 
@@ -168,10 +189,11 @@ fn a_byte_that_is_not_written_is_found() {
             let place = lent.out.start.wrapping_add(last);
             let before = (last < lent.out.length).then(|| unsafe { *place });
             let answer = archive(call, lent);
-            if let (Some(before), 0) = (before, answer) {
+            let before = before.filter(|_| is_done(answer));
+            if let Some(before) = before {
                 unsafe { *place = before };
             }
-            (answer, answer == 0 && before.is_some())
+            (answer, before.is_some())
         });
     }
 }
@@ -181,10 +203,10 @@ fn a_byte_written_after_the_stated_ones_is_found() {
     for call in writing() {
         always_found(call, |lent| {
             let answer = archive(call, lent);
-            if answer == 0 {
+            if is_done(answer) {
                 poke(lent.out, written(call, lent) as isize);
             }
-            (answer, answer == 0)
+            (answer, is_done(answer))
         });
     }
 }
@@ -208,7 +230,7 @@ fn an_output_written_by_a_refusal_is_found() {
     for call in writing() {
         always_found(call, |lent| {
             let answer = archive(call, lent);
-            let is_wrong = answer != 0 && lent.out.length > 0;
+            let is_wrong = !is_done(answer) && lent.out.length > 0;
             if is_wrong {
                 poke(lent.out, end(lent.out) - 1);
             }
@@ -267,7 +289,7 @@ const HOLDING: [Call; 4] = [
 ];
 
 /// Whether an answer is no refusal.
-fn is_done(answer: u32) -> bool {
+fn is_done(answer: u64) -> bool {
     answer == 0 || answer >= 1000
 }
 
@@ -395,7 +417,7 @@ fn misreported_walks_are_found(report: impl Fn(u32, u32, u32) -> u32 + Sync) {
     always_found(Call::HolderWalk, |lent| {
         let answer = archive(Call::HolderWalk, lent);
         let reported = match is_done(answer) {
-            true => report(answer / 1000, answer % 1000, stages(lent)),
+            true => report(answer as u32 / 1000, answer as u32 % 1000, stages(lent)).into(),
             false => answer,
         };
         (reported, reported != answer)
@@ -476,6 +498,7 @@ fn broken_holders_that_are_not_refused_are_found() {
 }
 
 /// Tries libraries that take an argument for something else, for each call that takes it.
+#[track_caller]
 fn taken_for_something_else(argument: Argument, change: impl Fn(&mut Lent) + Sync) {
     let takes = |call: &Call| call.arguments().contains(&argument);
     for call in Call::ALL.into_iter().filter(takes) {
@@ -484,7 +507,7 @@ fn taken_for_something_else(argument: Argument, change: impl Fn(&mut Lent) + Syn
             change(&mut lent);
             archive(call, &lent)
         };
-        assert!(found(call, &library) > 0, "{} {argument:?}", call.name());
+        assert!(is_found(call, &library), "{} {argument:?}", call.name());
     }
 }
 
@@ -499,11 +522,15 @@ fn numbers_cut_to_fewer_bits_are_found() {
         taken_for_something_else(Argument::Contractor, |lent| lent.contractor &= mask);
         taken_for_something_else(Argument::Right, |lent| lent.right &= mask);
     }
+    for mask in [0xff, 0x7fff] {
+        taken_for_something_else(Argument::PageNumber, |lent| lent.page_number &= mask);
+    }
 }
 
 #[test]
 fn lengths_cut_to_fewer_bits_are_found() {
     taken_for_something_else(Argument::Key, |lent| lent.key.length &= 0xff);
+    taken_for_something_else(Argument::SecondKey, |lent| lent.second_key.length &= 0xff);
     taken_for_something_else(Argument::Out, |lent| lent.out.length &= 0xff);
     taken_for_something_else(Argument::Roll, |lent| lent.roll.length &= 0xffff);
     for mask in [0xff, 0xffff] {
@@ -512,6 +539,11 @@ fn lengths_cut_to_fewer_bits_are_found() {
         taken_for_something_else(Argument::Block, |lent| lent.block.length &= mask);
         taken_for_something_else(Argument::Grant, |lent| lent.block.length &= mask);
         taken_for_something_else(Argument::Grants, |lent| lent.block.length &= mask);
+    }
+    taken_for_something_else(Argument::Scratch, |lent| lent.scratch.length &= 0x1ff);
+    for mask in [0x1ff, 0xffff] {
+        taken_for_something_else(Argument::Payload, |lent| lent.block.length &= mask);
+        taken_for_something_else(Argument::Page, |lent| lent.block.length &= mask);
     }
 }
 
@@ -559,7 +591,7 @@ fn counts_cut_to_a_byte_are_found() {
             lent.roll.start = cut.as_mut_ptr();
             archive(call, &lent)
         };
-        assert!(found(call, &library) > 0, "{}", call.name());
+        assert!(is_found(call, &library), "{}", call.name());
     }
 }
 
@@ -570,7 +602,7 @@ fn deciphered(lent: &Lent) -> Option<[u8; 12]> {
 }
 
 /// What the archive answers to a check if other plain bytes stand in the grant.
-fn answer_with(plain: &[u8; 12], lent: &Lent) -> u32 {
+fn answer_with(plain: &[u8; 12], lent: &Lent) -> u64 {
     let grant = gordzila::encipher(&copied(lent.key), lent.rounds, plain);
     let mut grant = grant.expect("what was deciphered can be enciphered");
     let mut lent = *lent;
@@ -585,7 +617,7 @@ fn by_other_rule(
     lent: &Lent,
     refuses: &dyn Fn(u32, u32) -> bool,
     answered: &dyn Fn(u32, u32) -> u32,
-) -> u32 {
+) -> u64 {
     let answer = archive(Call::Check, lent);
     let mut plain = match deciphered(lent) {
         Some(plain) if matches!(answer, 10 | 20 | 23 | 1000..) => plain,
@@ -598,7 +630,7 @@ fn by_other_rule(
     // A grant with the right asked for shows what comes after 10.
     plain[8] = asked as u8;
     match answer_with(&plain, lent) {
-        opens @ 1000.. => 1000 * answered(in_grant, asked) + opens % 1000,
+        opens @ 1000.. => 1000 * u64::from(answered(in_grant, asked)) + opens % 1000,
         refusal => refusal,
     }
 }
@@ -643,7 +675,7 @@ fn an_answer_with_another_right_is_found() {
 
 /// Tries a library that gives 10 in another place: what is made of the answer and of the one that it
 /// would be with the right asked for in the grant.
-fn ten_elsewhere_is_found(place: impl Fn(u32, u32, u8) -> u32 + Sync) {
+fn ten_elsewhere_is_found(place: impl Fn(u64, u64, u8) -> u64 + Sync) {
     always_found(Call::Check, |lent| {
         let answer = archive(Call::Check, lent);
         let elsewhere = match deciphered(lent) {
@@ -708,8 +740,8 @@ fn a_wrong_expectation_is_found() {
     for (case, expected) in cases() {
         // The second of the reasons that hold, as if their order were another.
         if let Some(&second) = expected.reasons.get(1) {
-            let mut effect = expected.effect.clone();
-            effect.answer = second;
+            let mut effect = refused(case, second);
+            effect.scratch.truncate(case.scratch);
             assert!(differs(case, &effect, &archive, &mut random), "{case}");
             tried += 1;
         }
@@ -722,6 +754,14 @@ fn a_wrong_expectation_is_found() {
         if !expected.effect.holder.is_empty() {
             let mut effect = expected.effect.clone();
             effect.holder[0] ^= 0x80;
+            assert!(differs(case, &effect, &archive, &mut random), "{case}");
+            tried += 1;
+        }
+        if !expected.effect.scratch.is_empty() {
+            let mut effect = expected.effect.clone();
+            effect.scratch[575] ^= 0x80;
+            assert!(differs(case, &effect, &archive, &mut random), "{case}");
+            effect.scratch.clear();
             assert!(differs(case, &effect, &archive, &mut random), "{case}");
             tried += 1;
         }

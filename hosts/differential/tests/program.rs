@@ -6,7 +6,7 @@ use std::process::{Command, Output};
 use gordzila_differential::archive::archive;
 use gordzila_differential::call::Call;
 use gordzila_differential::lend::Lent;
-use gordzila_differential::work::{work, Plan, KEPT};
+use gordzila_differential::work::{work, Plan, FAMILY, KEPT};
 
 /// So many cases are enough for everything to occur that can.
 const ENOUGH: u64 = 40_000;
@@ -34,7 +34,7 @@ fn the_program_finds_no_difference() {
         "{text}"
     );
     for pairs in [
-        "\npairs of reasons together: 68 of 68\n",
+        "\npairs of reasons together: 87 of 87\n",
         "\nthe same in a grant in a queue: 6 of 6\n",
     ] {
         assert!(text.contains(pairs), "{text}");
@@ -56,6 +56,8 @@ fn the_program_fails_if_something_never_occurs() {
     for missing in [
         "check with answer 23",
         "check_queue with reasons 3 and 4 together",
+        "open_page with answer late 11",
+        "open_page with reasons 11 and late 11 together",
         "grant in a queue with answer 10",
         "grant in a queue with reasons 20 and 23 together",
     ] {
@@ -77,7 +79,7 @@ fn the_program_refuses_bad_usage() {
 #[test]
 fn the_number_of_threads_does_not_matter() {
     // In some cases this library differs.
-    let library = |call: Call, lent: &Lent| archive(call, lent) + lent.contractor / 200;
+    let library = |call: Call, lent: &Lent| archive(call, lent) + u64::from(lent.contractor / 200);
     let one = work(&plan(1000, 1), &library);
     assert!(one.different > KEPT as u64);
     assert_eq!(one.first.len(), KEPT);
@@ -134,6 +136,25 @@ fn a_difference_of_a_queue_is_printed_in_full() {
     assert!(text.contains(" grants="), "{text}");
     assert!(text.contains(" out_length="), "{text}");
     assert!(text.contains("\n    out is "), "{text}");
+}
+
+#[test]
+fn a_difference_of_a_page_is_printed_in_full() {
+    let library = |call: Call, lent: &Lent| {
+        let answer = archive(call, lent);
+        if call == Call::OpenPage && lent.scratch.length > 0 {
+            unsafe { *lent.scratch.start ^= 0x40 };
+        }
+        answer
+    };
+    // The 64th family is the first with pages.
+    let outcome = work(&plan(64 * FAMILY, 2), &library);
+    let text = outcome.first[0].to_string();
+    assert!(text.contains(": open_page key="), "{text}");
+    assert!(text.contains(" second_key="), "{text}");
+    assert!(text.contains(" page="), "{text}");
+    assert!(text.contains(" scratch_length="), "{text}");
+    assert!(text.contains("\n    scratch is "), "{text}");
 }
 
 #[test]

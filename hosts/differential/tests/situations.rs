@@ -9,6 +9,9 @@ use gordzila_differential::holders::{is_whole, key_length, HOLDER_BYTES};
 use gordzila_differential::rolls::{count, is_contractor};
 use gordzila_differential::work::{family_cases, FAMILY};
 
+#[path = "situations/pages.rs"]
+mod pages;
+
 const SEED: u64 = 11;
 const FAMILIES: u64 = 600;
 
@@ -160,7 +163,7 @@ fn right_in_grant(case: &Case) -> Option<u8> {
 /// The right in the grant, the right asked for, and answers that occur with them.
 #[test]
 fn grants_of_each_right_are_asked_for_each_right() {
-    let table: [(u8, u32, &[u32]); 12] = [
+    let table: [(u8, u32, &[u64]); 12] = [
         (1, 1, &[1001, 1200, 9, 20, 23]),
         (1, 2, &[9, 10]),
         (2, 1, &[1001, 1200, 9, 20, 23]),
@@ -174,7 +177,7 @@ fn grants_of_each_right_are_asked_for_each_right() {
         (2, 0, &[7]),
         (2, 3, &[7]),
     ];
-    let checks: Vec<(Option<u8>, u32, u32)> = cases()
+    let checks: Vec<(Option<u8>, u32, u64)> = cases()
         .iter()
         .filter(|pair| pair.0.call == Call::Check)
         .map(|(case, expected)| (right_in_grant(case), case.right, expected.effect.answer))
@@ -188,14 +191,20 @@ fn grants_of_each_right_are_asked_for_each_right() {
 }
 
 #[test]
-fn blocks_lent_from_the_keys_bytes_occur() {
+fn blocks_and_second_keys_lent_from_the_keys_bytes_occur() {
     let shared: Vec<&Case> = cases()
         .iter()
         .map(|pair| &pair.0)
         .filter(|case| case.shared)
         .collect();
-    assert!(shared.len() > 100);
-    assert!(shared.iter().all(|case| case.key.starts_with(&case.block)));
+    let (on_pages, others): (Vec<&Case>, Vec<&Case>) = shared
+        .into_iter()
+        .partition(|case| Call::ON_PAGES.contains(&case.call));
+    assert!(others.len() > 100);
+    assert!(others.iter().all(|case| case.key.starts_with(&case.block)));
+    let beginning = |case: &&Case| case.key.starts_with(&case.second_key);
+    assert!(on_pages.len() > 10);
+    assert!(on_pages.iter().all(beginning));
 }
 
 #[test]
@@ -269,7 +278,7 @@ fn holders_that_name_another_key_length_occur() {
 #[test]
 fn walks_of_every_number_of_steps_occur() {
     for length in [12, 18, 24] {
-        let half = u32::from(length) / 2;
+        let half = u64::from(length) / 2;
         for answer in (1000..=1000 + half).chain(2001..2000 + half) {
             let mut walks = cases()
                 .iter()

@@ -27,7 +27,10 @@ returns c =
     let v = c .before .before .before .verdict .given in
     ap (λ (r : ℕ). 1000 * r + v .0 .0 .contractor) (c .before .right-number .ensures) ∙ sym (ap verdictCode (v .1))
 
+returns-2 : tie.Need-returns-2
+returns-2 c = c .reason-number .ensures ∙ sym (ap verdictCode (c .before .before .verdict2 .given .1))
+
 pub verdict-code-spec : {M : Type 1} → statement M
 verdict-code-spec =
     tie.close (tie.spec (λ c. search needs) (λ c κs. search needs) mul-result add-result (λ c. search needs)
-    (λ c κs. search needs) returns (λ c. search needs))
+    (λ c κs. search needs) returns returns-2)

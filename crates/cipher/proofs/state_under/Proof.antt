@@ -11,7 +11,7 @@ use Rattle.block_bytes.specs.Blocks.{listStates}
 use Rattle.list_rounds.specs.ListRounds.{listLength}
 use Rattle.key_lists.specs.KeyLists.{listFor}
 use Rattle.key_lists.proofs.Lists.{Allowed, allowed, fitting, read-back}
-use Rattle.cipher.proofs.Accepted.{accepted}
+use Rattle.list_rounds.proofs.Lists.{accepted}
 use borrow.Author.Needs.{needs}
 use Rattle.cipher.proofs.state_under.Statement.{statement}
 use Rattle.cipher.proofs.state_under.Tie as tie

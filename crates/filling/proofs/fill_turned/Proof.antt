@@ -16,7 +16,7 @@ use Rattle.key_lists.specs.KeyLists.{subkeys}
 use Rattle.stages.specs.Stages.{stage}
 use Rattle.sizes.proofs.Keys.{a-key}
 use Rattle.filling.proofs.Keys.{selected}
-use Rattle.filling.proofs.Filled.{overlaid, part-written}
+use Rattle.block_bytes.proofs.Put.{overlaid, part-written}
 use Rattle.filling.proofs.Turned.{back, first-drop, back-first, back-next, back-whole}
 use Rattle.filling.proofs.Filling.{Filling, stage-asks, goes-on}
 use borrow.Author.Needs.{needs}

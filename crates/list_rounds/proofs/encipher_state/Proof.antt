@@ -11,8 +11,8 @@ use Rattle.layers.specs.State.{State}
 use Rattle.layers.specs.Layers.{added}
 use Rattle.rounds.specs.Rounds.{round, lastRound, rounds}
 use Rattle.block_bytes.specs.Blocks.{listStates}
-use Rattle.block_bytes.proofs.Lists.{length-states, state-at}
-use Rattle.list_rounds.proofs.Lists.{Whole, whole, subkey-read, round-on, round-last, whitened}
+use Rattle.block_bytes.proofs.Lists.{length-states, state-at, block-read}
+use Rattle.list_rounds.proofs.Lists.{Whole, whole, round-on, round-last, whitened}
 use borrow.Author.Needs.{needs}
 use Rattle.list_rounds.proofs.encipher_state.Statement.{statement}
 use Rattle.list_rounds.proofs.encipher_state.Tie as tie
@@ -54,7 +54,7 @@ loop-again c =
       (
         refl,
         ap (rounds (drop (r + 1) ks))
-            (c .middle-round .ensures ∙ ap (λ (k : State). round k state) (subkey-read list r _ (omega arith) (c .before .state-of2 .ensures)))
+            (c .middle-round .ensures ∙ ap (λ (k : State). round k state) (c .before .state-of2 .ensures ∙ block-read list _ r (omega arith) refl))
             ∙ ap (λ (m : ℕ). rounds (drop m ks) (round (getD ks r []) state)) (add-one r)
             ∙ sym (round-on ks r state (omega (arith, length-states list)))
             ∙ l .loop .inv .1 .1,
@@ -71,7 +71,7 @@ returns c =
     let state = l .loop .state in
     let w = accepted (start l) in
     c .last-round .ensures
-    ∙ ap (λ (k : State). lastRound k state) (subkey-read list r _ (omega arith) (c .before .state-of3 .ensures))
+    ∙ ap (λ (k : State). lastRound k state) (c .before .state-of3 .ensures ∙ block-read list _ r (omega arith) refl)
     ∙ sym (round-last ks r state (omega (arith, length-states list)))
     ∙ l .loop .inv .1 .1
     ∙ ap (rounds (drop 1 ks)) (l .before .add-key .ensures

@@ -21,7 +21,7 @@ fn single(lent: &Lent, place: usize) -> Lent {
 }
 
 /// The byte for what a single check answers.
-fn byte(answer: u32) -> u8 {
+fn byte(answer: u64) -> u8 {
     match answer {
         1000.. => 0,
         refusal => refusal as u8,
@@ -49,7 +49,7 @@ fn write_checked(lent: &Lent, grants: usize) {
 /// Tries a library in place of the queue: in at least one case it answers or writes something else
 /// than the archive, and in each such case, and no other, it is found out. It writes nothing but the
 /// output.
-fn other_queue_is_found(library: impl Fn(&Lent) -> u32 + Sync) {
+fn other_queue_is_found(library: impl Fn(&Lent) -> u64 + Sync) {
     always_found(Call::CheckQueue, |lent| {
         let before = copied(lent.out);
         let right = (archive(Call::CheckQueue, lent), copied(lent.out));
@@ -90,7 +90,7 @@ fn first_refused(answered: &Answered) -> usize {
 }
 
 /// A queue by single checks, of so many grants at most.
-fn by_singles(lent: &Lent, most: usize) -> u32 {
+fn by_singles(lent: &Lent, most: usize) -> u64 {
     let mut empty = *lent;
     empty.block.length = 0;
     let refusal = archive(Call::CheckQueue, &empty);
@@ -202,7 +202,7 @@ fn each_other_order_of_two_reasons_is_found() {
     assert_eq!(pairs.len(), 9);
     for (first, other) in pairs {
         other_queue_is_found(|lent| match archive(Call::CheckQueue, lent) {
-            answer if answer == first && holds(other, lent) => other,
+            answer if answer == u64::from(first) && holds(other, lent) => u64::from(other),
             answer => answer,
         });
     }
@@ -212,13 +212,11 @@ fn each_other_order_of_two_reasons_is_found() {
 fn a_reason_that_is_not_tried_is_found() {
     for &reason in Call::CheckQueue.reasons() {
         other_queue_is_found(|lent| match archive(Call::CheckQueue, lent) {
-            answer if answer == reason => {
-                let later = Call::CheckQueue.reasons().iter().copied();
-                let later = later.filter(|&later| later != reason);
-                later
-                    .into_iter()
-                    .find(|&later| holds(later, lent))
-                    .unwrap_or(0)
+            answer if answer == u64::from(reason) => {
+                let later = Call::CheckQueue.reasons().iter();
+                let mut later = later.filter(|&&later| later != reason);
+                let given = later.find(|&&later| holds(later, lent));
+                given.map_or(0, |&later| u64::from(later))
             }
             answer => answer,
         });
@@ -232,7 +230,7 @@ fn a_byte_written_by_a_refused_queue_is_found() {
             other_queue_is_found(|lent| {
                 let answer = archive(Call::CheckQueue, lent);
                 let bytes = if everywhere { lent.out.length } else { 1 };
-                if answer == reason && lent.out.length > 0 {
+                if answer == u64::from(reason) && lent.out.length > 0 {
                     (0..bytes).for_each(|place| write(lent, place, reason as u8));
                 }
                 answer
@@ -305,10 +303,10 @@ fn a_number_other_than_0_for_a_queue_is_found() {
         bytes.iter().find(|&&byte| byte != 0).copied()
     };
     // The grants that open, those that do not, the first refusal.
-    let numbers: [&(dyn Fn(&Lent) -> u32 + Sync); 3] = [
-        &|lent| opening(lent) as u32,
-        &|lent| (grants(lent) - opening(lent)) as u32,
-        &|lent| u32::from(refused(lent).unwrap_or(0)),
+    let numbers: [&(dyn Fn(&Lent) -> u64 + Sync); 3] = [
+        &|lent| opening(lent) as u64,
+        &|lent| (grants(lent) - opening(lent)) as u64,
+        &|lent| u64::from(refused(lent).unwrap_or(0)),
     ];
     for number in numbers {
         other_queue_is_found(|lent| match archive(Call::CheckQueue, lent) {
@@ -402,7 +400,7 @@ fn a_byte_taken_for_another_is_found() {
 #[test]
 fn an_opening_byte_other_than_0_is_found() {
     // What is left of the single check's answer in a byte, its contractor, and its right.
-    let made: [fn(u32) -> u32; 3] = [
+    let made: [fn(u64) -> u64; 3] = [
         |answer| answer,
         |answer| answer % 1000,
         |answer| answer / 1000,
@@ -424,7 +422,7 @@ fn contractor(lent: &Lent) -> Option<u32> {
 
 /// What a single check answers if the contractor of one grant has the count that the contractor of
 /// another has.
-fn with_count_of(lent: &Lent, place: usize, other: usize) -> u32 {
+fn with_count_of(lent: &Lent, place: usize, other: usize) -> u64 {
     let mut one = single(lent, place);
     let mut roll = copied(lent.roll);
     let contractors = [one, single(lent, other)].map(|lent| contractor(&lent));

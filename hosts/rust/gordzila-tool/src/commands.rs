@@ -2,11 +2,12 @@
 
 use crate::failure::{Answer, Failure};
 use crate::options::{
-    Options, BLOCK, CONTRACTOR, FROM, GRANT, GRANTS, KEY, KEY_FILE, RIGHT, ROLL, ROUNDS, STAGE, TO,
+    Options, BLOCK, CONTRACTOR, FIRST_KEY, FIRST_KEY_FILE, FROM, GRANT, GRANTS, KEY, KEY_FILE,
+    PAGE, PAGE_NUMBER, PAYLOAD, RIGHT, ROLL, ROUNDS, SECOND_KEY, SECOND_KEY_FILE, STAGE, TO,
 };
 use crate::printing::Done::{self, Changed, Told};
-use crate::{help, hex, rolls};
-use gordzila::{raw, KeyHolder, Reason, Roll, Walked, BLOCK_BYTES, CONTRACTORS};
+use crate::{help, hex, pages, rolls};
+use gordzila::{raw, KeyHolder, PageKeys, Reason, Roll, Walked, BLOCK_BYTES, CONTRACTORS};
 use std::ffi::{OsStr, OsString};
 
 /// A call that writes 12 bytes under a key, for a block of 12 bytes.
@@ -25,6 +26,8 @@ pub fn run(name: &OsStr, words: &[OsString]) -> Result<Done, Failure> {
         "issue" => issue(words).map(Told),
         "check" => check(words).map(Told),
         "queue" => queue(words).map(Told),
+        "seal" => seal(words).map(Changed),
+        "open" => open(words).map(Changed),
         "encipher" => cipher(words, raw::encipher).map(Told),
         "decipher" => cipher(words, raw::decipher).map(Told),
         "stage" => stage(words).map(Told),
@@ -99,6 +102,38 @@ fn queue(words: &[OsString]) -> Answer {
     )?;
     let lines = (1..).zip(answers).map(|(n, byte)| verdict_on(n, byte));
     Ok(lines.collect())
+}
+
+/// The words are read before the payload, which may come from another program.
+fn seal(words: &[OsString]) -> Answer {
+    let keys = [FIRST_KEY, FIRST_KEY_FILE, SECOND_KEY, SECOND_KEY_FILE];
+    let others = [ROUNDS, BLOCK, PAGE_NUMBER, PAYLOAD, PAGE];
+    let options = Options::parse(words, &[&keys[..], &others].concat())?;
+    let [first, second] = &options.page_keys()?;
+    let (rounds, block) = (options.number(ROUNDS)?, options.number(BLOCK)?);
+    let (number, target) = (options.page_number()?, options.new_file(PAGE)?);
+    let payload = options.payload()?;
+    let keys = PageKeys { first, second };
+    let page = gordzila::seal_page(keys, rounds, block, number, &payload)?;
+    pages::write_page(target, &page)?;
+    Ok(format!("sealed: {}", line_on_page(block, number, &payload)))
+}
+
+/// The words are read before the page. Which page it is, it says itself: whether it is the
+/// one that was wanted, the reader of the line sees.
+fn open(words: &[OsString]) -> Answer {
+    let keys = [FIRST_KEY, FIRST_KEY_FILE, SECOND_KEY, SECOND_KEY_FILE];
+    let options = Options::parse(words, &[&keys[..], &[ROUNDS, PAGE, PAYLOAD]].concat())?;
+    let [first, second] = &options.page_keys()?;
+    let (rounds, target) = (options.number(ROUNDS)?, options.new_file(PAYLOAD)?);
+    let page = options.page()?;
+    let opened = gordzila::open_page(PageKeys { first, second }, rounds, &page)?;
+    pages::write_payload(target, &opened.payload)?;
+    let (block, number) = (opened.size_block, opened.page_number);
+    Ok(format!(
+        "opened: {}",
+        line_on_page(block, number, &opened.payload)
+    ))
 }
 
 fn cipher(words: &[OsString], call: CipherCall) -> Answer {
@@ -186,6 +221,11 @@ fn verdict_on(n: usize, byte: u8) -> String {
         (_, Some(reason)) => format!("{n}: refused with {byte}: {reason}\n"),
         (_, None) => format!("{n}: refused with {byte}\n"),
     }
+}
+
+fn line_on_page(block: u32, number: u16, payload: &[u8]) -> String {
+    let used = payload.len();
+    format!("size block {block}, page {number}, {used} bytes\n")
 }
 
 fn line_on(roll: &Roll, contractor: u32) -> String {

@@ -1,41 +1,26 @@
 //! Grants in a file or on standard input, one a line, as `issue` prints them.
 
 use crate::failure::Failure;
-use crate::hex;
 use crate::options::{trimmed, GRANTS};
+use crate::{hex, input};
 use gordzila::BLOCK_BYTES;
 use std::ffi::OsStr;
-use std::fs::File;
-use std::io::{self, Read};
-use std::path::Path;
-
-/// The name that stands for standard input.
-const STANDARD_INPUT: &str = "-";
 
 /// The longest text that is read. That is room for far more than the 64 grants of a queue,
-/// so that the library refuses more; no limit would let a file without end fill the memory.
-const LONGEST_TEXT: u64 = 65_536;
+/// so that the library refuses more.
+const LONGEST_TEXT: usize = 65_536;
 
 /// The bytes of the grants in a file or on standard input, one after the other.
 pub fn read(name: &OsStr) -> Result<Vec<u8>, Failure> {
-    let (shown, text) = if name == STANDARD_INPUT {
-        (Path::new("standard input"), text_of(io::stdin()))
-    } else {
-        (Path::new(name), File::open(name).and_then(text_of))
-    };
-    let text = text.map_err(|error| Failure::file(GRANTS, shown, error))?;
-    if text.len() as u64 > LONGEST_TEXT {
+    let (shown, text) = (
+        input::shown(name),
+        input::read(GRANTS, name, LONGEST_TEXT + 1)?,
+    );
+    if text.len() > LONGEST_TEXT {
         let why = format!("more than {LONGEST_TEXT} bytes");
         return Err(Failure::file(GRANTS, shown, why));
     }
     bytes_of(&text).map_err(|why| Failure::file(GRANTS, shown, why))
-}
-
-/// The bytes to read, and one more than the limit at most.
-fn text_of(source: impl Read) -> io::Result<Vec<u8>> {
-    let mut text = Vec::new();
-    source.take(LONGEST_TEXT + 1).read_to_end(&mut text)?;
-    Ok(text)
 }
 
 /// The bytes of the grants in lines, or which line is none. Lines with nothing but white

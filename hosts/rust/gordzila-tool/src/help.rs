@@ -5,8 +5,9 @@ use crate::failure::{Answer, Failure};
 use std::ffi::OsString;
 
 /// The subcommands.
-pub const NAMES: [&str; 10] = [
-    "issue", "check", "queue", "encipher", "decipher", "stage", "walk", "enter", "withdraw", "roll",
+pub const NAMES: [&str; 12] = [
+    "issue", "check", "queue", "seal", "open", "encipher", "decipher", "stage", "walk", "enter",
+    "withdraw", "roll",
 ];
 
 /// The help that the words after `help` ask for.
@@ -24,6 +25,8 @@ pub fn of(name: &str) -> String {
         "issue" => ISSUE,
         "check" => CHECK,
         "queue" => QUEUE,
+        "seal" => SEAL,
+        "open" => OPEN,
         "encipher" => ENCIPHER,
         "decipher" => DECIPHER,
         "stage" => STAGE,
@@ -43,6 +46,8 @@ usage: gordzila SUBCOMMAND OPTIONS
   issue      issue a grant
   check      check a grant
   queue      check up to 64 grants for one size block
+  seal       seal up to 492 bytes of a size block in a page
+  open       open a page
   encipher   encipher one block
   decipher   decipher one block
   stage      show a stage of a key and its subkey
@@ -56,13 +61,14 @@ usage: gordzila SUBCOMMAND OPTIONS
 
 Options stand in any order, each with its value as the next word. Keys, blocks
 and grants are hexadecimal digits with nothing between them; size blocks go by
-number, and numbers are decimal.
-A key on the command line is seen by others on the machine: use --key-file.
+number, and numbers are decimal. Pages and their payloads are files of bytes.
+A key on the command line is seen by others on the machine: use --key-file, and
+for pages --first-key-file and --second-key-file.
 
-exit status: 0 done, or the grant opens; 1 refused, with the number and the
-reason on standard error; 2 bad usage, or a file, standard input or standard
-output that cannot be used. With `queue`, 0 says that each grant has its
-verdict, not that one opens.
+exit status: 0 done, or the grant or the page opens; 1 refused, with the number
+and the reason on standard error; 2 bad usage, or a file, standard input or
+standard output that cannot be used. With `queue`, 0 says that each grant has
+its verdict, not that one opens.
 ";
 
 const ISSUE: &str = "\
@@ -118,6 +124,51 @@ Exit status 0 says that each grant has its verdict, and not that one opens:
 read the lines. Where the whole queue is refused, as more than 64 grants are
 with 3, the status is 1 and there is no verdict. A line that is not the 12
 bytes of a grant, or a text of more than 65,536 bytes, cannot be used: status 2.
+";
+
+const SEAL: &str = "\
+Seals a page of 512 bytes: enciphers a payload of 0 to 492 bytes under the
+first key, and makes the check under the second. Prints the numbers of the size
+block and the page, and how many bytes the payload has. These three stand in
+the page for all to read.
+
+usage: gordzila seal OPTIONS
+
+  --first-key HEX          a key for pages, 12, 18 or 24 bytes
+  --first-key-file FILE    the same, from a file of hexadecimal digits
+  --second-key HEX         another key for pages, of the same length
+  --second-key-file FILE   the same, from a file of hexadecimal digits
+  --rounds N               10 to 11, 14 to 17 or 18 to 23, by the keys' length
+  --block N                the number of the size block
+  --page-number N          the number of the page, 0 to 65535
+  --payload FILE           the payload, as bytes; - stands for standard input
+  --page FILE              the page, which is written
+
+The page is a new file: one that exists is not replaced. Where it is refused, as
+more than 492 bytes are with 12, no file is made, nor is one with status 2
+unless the message says that the change is made.
+";
+
+const OPEN: &str = "\
+Opens a page and writes its payload, without the unused bytes. Prints the
+numbers of the size block and the page that it was sealed with, and how many
+bytes the payload has.
+
+usage: gordzila open OPTIONS
+
+  --first-key HEX          the first key that the page was sealed with
+  --first-key-file FILE    the same, from a file of hexadecimal digits
+  --second-key HEX         the second key
+  --second-key-file FILE   the same, from a file of hexadecimal digits
+  --rounds N               10 to 11, 14 to 17 or 18 to 23, by the keys' length
+  --page FILE              the page, as bytes; - stands for standard input
+  --payload FILE           the payload, which is written
+
+A page is not bound to its place: see that the numbers are those that you
+wanted. An older page with the same numbers opens too.
+The payload is a new file, which its owner alone may open: one that exists is
+not replaced. Where the page is refused, no file is made, nor is one with
+status 2 unless the message says that the change is made.
 ";
 
 const ENCIPHER: &str = "\

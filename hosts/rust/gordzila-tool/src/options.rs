@@ -1,7 +1,8 @@
 //! The options of a subcommand, and their values.
 
 use crate::failure::Failure;
-use crate::{grants, hex, rolls};
+use crate::input::STANDARD_INPUT;
+use crate::{grants, hex, pages, rolls};
 use gordzila::{Right, Roll};
 use std::ffi::{OsStr, OsString};
 use std::fs::File;
@@ -10,6 +11,10 @@ use std::path::Path;
 
 pub const KEY: &str = "--key";
 pub const KEY_FILE: &str = "--key-file";
+pub const FIRST_KEY: &str = "--first-key";
+pub const FIRST_KEY_FILE: &str = "--first-key-file";
+pub const SECOND_KEY: &str = "--second-key";
+pub const SECOND_KEY_FILE: &str = "--second-key-file";
 pub const ROUNDS: &str = "--rounds";
 pub const ROLL: &str = "--roll";
 pub const CONTRACTOR: &str = "--contractor";
@@ -17,6 +22,9 @@ pub const BLOCK: &str = "--block";
 pub const RIGHT: &str = "--right";
 pub const GRANT: &str = "--grant";
 pub const GRANTS: &str = "--grants";
+pub const PAGE_NUMBER: &str = "--page-number";
+pub const PAYLOAD: &str = "--payload";
+pub const PAGE: &str = "--page";
 pub const STAGE: &str = "--stage";
 pub const FROM: &str = "--from";
 pub const TO: &str = "--to";
@@ -55,6 +63,12 @@ impl Options {
         number_of(name, self.value(name)?)
     }
 
+    /// The number of a page.
+    pub fn page_number(&self) -> Result<u16, Failure> {
+        let above = |_| wrong(PAGE_NUMBER, &format!("a number above {}", u16::MAX));
+        self.number(PAGE_NUMBER)?.try_into().map_err(above)
+    }
+
     /// The bytes that an option gives by hexadecimal digits.
     pub fn bytes(&self, name: &str) -> Result<Vec<u8>, Failure> {
         let digits = self.value(name)?.to_string_lossy();
@@ -77,13 +91,26 @@ impl Options {
 
     /// The key, from the command line or from a file.
     pub fn key(&self) -> Result<Vec<u8>, Failure> {
-        match (self.find(KEY), self.find(KEY_FILE)) {
-            (Some(_), None) => self.bytes(KEY),
-            (None, Some(path)) => key_in(Path::new(path)),
+        self.key_by(KEY, KEY_FILE)
+    }
+
+    /// The two keys of pages, each likewise.
+    pub fn page_keys(&self) -> Result<[Vec<u8>; 2], Failure> {
+        Ok([
+            self.key_by(FIRST_KEY, FIRST_KEY_FILE)?,
+            self.key_by(SECOND_KEY, SECOND_KEY_FILE)?,
+        ])
+    }
+
+    /// The key that one of two options gives: by digits, or by the name of a file.
+    fn key_by(&self, digits: &str, file: &str) -> Result<Vec<u8>, Failure> {
+        match (self.find(digits), self.find(file)) {
+            (Some(_), None) => self.bytes(digits),
+            (None, Some(path)) => key_in(file, Path::new(path)),
             (Some(_), Some(_)) => Err(Failure::usage(format!(
-                "{KEY} and {KEY_FILE} are given, and only one may be"
+                "{digits} and {file} are given, and only one may be"
             ))),
-            (None, None) => Err(Failure::usage(format!("{KEY} or {KEY_FILE} is missing"))),
+            (None, None) => Err(Failure::usage(format!("{digits} or {file} is missing"))),
         }
     }
 
@@ -95,6 +122,27 @@ impl Options {
     /// The bytes of the grants in the file that the option names, or on standard input.
     pub fn grants(&self) -> Result<Vec<u8>, Failure> {
         grants::read(self.value(GRANTS)?)
+    }
+
+    /// The payload in the file that the option names, or on standard input.
+    pub fn payload(&self) -> Result<Vec<u8>, Failure> {
+        pages::read_payload(self.value(PAYLOAD)?)
+    }
+
+    /// The page in the file that the option names, or on standard input.
+    pub fn page(&self) -> Result<Vec<u8>, Failure> {
+        pages::read_page(self.value(PAGE)?)
+    }
+
+    /// The name of a file that is to be written. Standard output has the line that is
+    /// printed, and so cannot have the bytes.
+    pub fn new_file(&self, name: &str) -> Result<&Path, Failure> {
+        match self.value(name)? {
+            value if value == STANDARD_INPUT => {
+                Err(wrong(name, "not to standard output; name a new file"))
+            }
+            value => Ok(Path::new(value)),
+        }
     }
 
     /// The name of the roll's file.
@@ -141,12 +189,12 @@ fn number_of(name: &str, value: &OsStr) -> Result<u32, Failure> {
         .map_err(|_| wrong(name, &format!("a number above {}", u32::MAX)))
 }
 
-fn key_in(path: &Path) -> Result<Vec<u8>, Failure> {
-    let text = text_in(path).map_err(|error| Failure::file(KEY_FILE, path, error))?;
+fn key_in(option: &str, path: &Path) -> Result<Vec<u8>, Failure> {
+    let text = text_in(path).map_err(|error| Failure::file(option, path, error))?;
     if text.len() as u64 > LONGEST_KEY_FILE {
-        return Err(Failure::file(KEY_FILE, path, "too long for a key"));
+        return Err(Failure::file(option, path, "too long for a key"));
     }
-    hex::bytes_of(trimmed(&text)).map_err(|why| Failure::file(KEY_FILE, path, why))
+    hex::bytes_of(trimmed(&text)).map_err(|why| Failure::file(option, path, why))
 }
 
 /// A file's bytes, and one more than the limit at most.

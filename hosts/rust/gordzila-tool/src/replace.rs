@@ -28,13 +28,26 @@ pub fn replace(target: &Path, bytes: &[u8], old: &Metadata) -> io::Result<()> {
 
 /// Writes the bytes to a temporary file beside the target, and gives it the target's
 /// name as a second one. Unlike a rename, that fails where something has the name, also
-/// if another program gave it just now, or to a symbolic link that leads nowhere.
-pub fn make(target: &Path, bytes: &[u8]) -> io::Result<()> {
+/// if another program gave it just now, or to a symbolic link that leads nowhere. `mode`
+/// says who may open it, before the umask.
+pub fn make(target: &Path, bytes: &[u8], mode: u32) -> io::Result<()> {
     let directory = directory_of(target)?;
-    let (temporary, mut file) = Temporary::create(target, 0o666)?;
+    let (temporary, mut file) = Temporary::create(target, mode)?;
     write_out(&mut file, bytes)?;
     temporary.link(target)?;
     sync(&directory)
+}
+
+/// Where a file that does not exist will be: its directory does.
+pub fn new_target(path: &Path) -> io::Result<PathBuf> {
+    let name = path
+        .file_name()
+        .ok_or_else(|| io::Error::new(io::ErrorKind::InvalidInput, "not the name of a file"))?;
+    let directory = match path.parent() {
+        Some(directory) if directory != Path::new("") => directory,
+        _ => Path::new("."),
+    };
+    Ok(fs::canonicalize(directory)?.join(name))
 }
 
 /// The directory of a file. It is opened first: once the file is in place, nothing that
@@ -102,7 +115,7 @@ impl Temporary {
     }
 
     /// Gives the file the target's name, and takes its own away. If its own stays, that
-    /// is told: a roll with two names is not changed.
+    /// is told: a roll with two names is not changed, and a payload is to be in one place.
     fn link(mut self, target: &Path) -> io::Result<()> {
         fs::hard_link(&self.path, target).map_err(|error| not_linked(&error))?;
         self.in_place = true;

@@ -8,7 +8,7 @@ use gordzila::{Reason, Roll, ROLL_BYTES};
 use std::fs::{self, File, Metadata};
 use std::io::{self, Read};
 use std::os::unix::fs::MetadataExt;
-use std::path::{Path, PathBuf};
+use std::path::Path;
 
 /// The roll in a file.
 pub fn read(path: &Path) -> Result<Roll, Failure> {
@@ -42,9 +42,9 @@ pub fn change(
 /// not replaced: if counts start anew, revoked grants open again.
 pub fn make(path: &Path) -> Result<(), Failure> {
     let trouble = |error: io::Error| Failure::file(ROLL, path, error);
-    let target = new_target(path).map_err(trouble)?;
+    let target = replace::new_target(path).map_err(trouble)?;
     let _lock = Lock::take(&target).map_err(trouble)?;
-    replace::make(&target, Roll::empty().bytes()).map_err(trouble)
+    replace::make(&target, Roll::empty().bytes(), 0o666).map_err(trouble)
 }
 
 /// Why a file cannot be replaced, if it cannot. A withdrawal under one of several names
@@ -66,16 +66,4 @@ fn bytes_in(path: &Path) -> io::Result<Vec<u8>> {
         .take(ROLL_BYTES as u64 + 1)
         .read_to_end(&mut bytes)?;
     Ok(bytes)
-}
-
-/// Where a file that does not exist will be: its directory does.
-fn new_target(path: &Path) -> io::Result<PathBuf> {
-    let name = path
-        .file_name()
-        .ok_or_else(|| io::Error::new(io::ErrorKind::InvalidInput, "not the name of a file"))?;
-    let directory = match path.parent() {
-        Some(directory) if directory != Path::new("") => directory,
-        _ => Path::new("."),
-    };
-    Ok(fs::canonicalize(directory)?.join(name))
 }

@@ -36,6 +36,9 @@
 //! A plotter that starts the day with a pile of cached grants for one size block hands
 //! them over to [`check_queue`], up to 64 in one call.
 //!
+//! What a size block has can be kept in pages of 512 bytes: [`seal_page`] enciphers up to
+//! 492 bytes and adds a check, and [`open_page`] gives them again, or refuses.
+//!
 //! A [`KeyHolder`] has one stage of a key and goes to the others, step by step or by
 //! walks.
 //!
@@ -48,6 +51,7 @@
 mod calls;
 mod grants;
 mod holder;
+mod pages;
 pub mod raw;
 mod reason;
 mod roll;
@@ -62,6 +66,10 @@ pub use calls::{
 };
 pub use grants::{Opened, Right};
 pub use holder::{KeyHolder, HOLDER_BYTES};
+pub use pages::{
+    open_page, seal_page, OpenedPage, PageHeader, PageKeys, PAGE_BYTES, PAYLOAD_BYTES,
+    SCRATCH_BYTES,
+};
 pub use reason::Reason;
 pub use roll::{Roll, CONTRACTORS, ROLL_BYTES};
 pub use walks::{Walked, Way};

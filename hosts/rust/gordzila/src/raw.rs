@@ -5,9 +5,9 @@
 //!
 //! Each call stands here twice: with a name that ends in `_number` it gives the number
 //! that the C call answers, without it a `Result`. Where a call refuses, it writes
-//! nothing. Where it does not, it writes the bytes that are said, from the start of
-//! `out` or `answers`, and none after them. Of several reasons that hold, it gives the
-//! first in the order that stands with the call.
+//! nothing, but for the scratch of [`open_page`]. Where it does not, it writes the bytes
+//! that are said, from the start of `out` or `answers`, and none after them. Of several
+//! reasons that hold, it gives the first in the order that stands with the call.
 //!
 //! ```
 //! use gordzila::{raw, Reason};
@@ -27,10 +27,11 @@
 pub use crate::sys::{
     check_number, check_queue_number, decipher_number, encipher_number, enter_number,
     holder_back_number, holder_forward_number, holder_make_number, holder_subkey_number,
-    holder_walk_number, issue_number, prepare_deciphering_number, prepare_enciphering_number,
-    run_number, stage_number, subkey_number, withdraw_number,
+    holder_walk_number, issue_number, open_page_number, prepare_deciphering_number,
+    prepare_enciphering_number, run_number, seal_page_number, stage_number, subkey_number,
+    withdraw_number,
 };
-use crate::{Opened, Reason, Right, Walked, Way, CONTRACTORS};
+use crate::{Opened, PageHeader, PageKeys, Reason, Right, Walked, Way, CONTRACTORS, PAYLOAD_BYTES};
 
 /// An answer from this number on says that a grant opens; it is this number times the
 /// right asked for, plus the contractor.
@@ -39,6 +40,10 @@ const OPENS: u32 = 1000;
 /// An answer from this number on says that a holder walked; it is this number, or twice
 /// this number for a walk back, plus the steps.
 const WALKED: u32 = 1000;
+
+/// An answer from this number on says that a page opens; it is this number plus the used
+/// count, the page number and the size block, in 15, 16 and 32 bits.
+const PAGE_OPENS: u64 = 1 << 63;
 
 /// Checks a grant for one size block and one right, which is the one in the answer. A
 /// grant for overwriting opens for reading too. Order: 1, 2, 3 (grant or roll), 7, 8, 9,
@@ -110,6 +115,83 @@ pub fn issue(
     done(issue_number(
         key, rounds, roll, contractor, size_block, right, out,
     ))
+}
+
+/// Seals a page: 512 bytes to `out`. Order: 1 (also keys that are equal or of unequal
+/// lengths), 2, 4 (`scratch` under 576 bytes or `out` under 512), 12.
+///
+/// The subkey lists are in `scratch` while the call works. After it the first 576 bytes are
+/// zero, and the others as they were; where it refuses, all are as they were:
+///
+/// ```
+/// use gordzila::{raw, PageKeys, Reason};
+///
+/// let (keys, mut scratch, mut out) = (
+///     PageKeys { first: &[1; 12], second: &[2; 12] },
+///     [0xee; 577],
+///     [0xee; 513],
+/// );
+/// let refused = raw::seal_page(keys, 10, 300, 4, &[0; 493], &mut scratch, &mut out);
+/// assert_eq!((refused, scratch), (Err(Reason::PayloadTooLong), [0xee; 577]));
+/// raw::seal_page(keys, 10, 300, 4, b"front panel", &mut scratch, &mut out)?;
+/// assert_eq!((&scratch[..576], scratch[576], out[512]), (&[0; 576][..], 0xee, 0xee));
+/// # Ok::<(), Reason>(())
+/// ```
+pub fn seal_page(
+    keys: PageKeys<'_>,
+    rounds: u32,
+    size_block: u32,
+    page_number: u16,
+    payload: &[u8],
+    scratch: &mut [u8],
+    out: &mut [u8],
+) -> Result<(), Reason> {
+    done(seal_page_number(
+        keys,
+        rounds,
+        size_block,
+        page_number,
+        payload,
+        scratch,
+        out,
+    ))
+}
+
+/// Opens a page: all 492 bytes of the payload to `out`, with zeros past those that are
+/// used. Order: 1 (also keys that are equal or of unequal lengths), 2, 4 (`scratch` under
+/// 576 bytes or `out` under 492), 11 (the page's length, its used count or its bytes 8 to
+/// 11), 13, 11 (unused payload bytes).
+///
+/// The subkey lists are in `scratch` while the call works. After it the first 576 bytes are
+/// zero, and the others as they were; so they are after 13 and after the second 11, though
+/// these refuse. After every other refusal all are as they were. `out` is as it was after
+/// every refusal.
+///
+/// ```
+/// use gordzila::{raw, PageHeader, PageKeys, Reason};
+///
+/// let keys = PageKeys { first: &[1; 12], second: &[2; 12] };
+/// let mut page = gordzila::seal_page(keys, 10, 300, 4, b"front panel")?;
+/// let (mut scratch, mut out) = ([0xee; 576], [0xee; 492]);
+/// let header = raw::open_page(keys, 10, &page, &mut scratch, &mut out)?;
+/// assert_eq!(header, PageHeader { size_block: 300, page_number: 4, used: 11 });
+/// assert_eq!((&out[..11], &out[11..]), (&b"front panel"[..], &[0; 481][..]));
+///
+/// page[511] ^= 1;
+/// let (mut scratch, mut out) = ([0xee; 576], [0xee; 492]);
+/// let refused = raw::open_page(keys, 10, &page, &mut scratch, &mut out);
+/// assert_eq!(refused, Err(Reason::CheckDiffers));
+/// assert_eq!((scratch, out), ([0; 576], [0xee; 492]));
+/// # Ok::<(), Reason>(())
+/// ```
+pub fn open_page(
+    keys: PageKeys<'_>,
+    rounds: u32,
+    page: &[u8],
+    scratch: &mut [u8],
+    out: &mut [u8],
+) -> Result<PageHeader, Reason> {
+    page_opened(open_page_number(keys, rounds, page, scratch, out))
 }
 
 /// Enciphers one block: 12 bytes to `out`. Order: 1, 2, 3, 4.
@@ -219,20 +301,40 @@ fn walked(answer: u32) -> Result<Walked, Reason> {
     }
 }
 
+/// What an answer of the opening of a page says.
+fn page_opened(answer: u64) -> Result<PageHeader, Reason> {
+    if answer < PAGE_OPENS {
+        let number = u32::try_from(answer).unwrap_or_else(|_| unknown(answer));
+        return Err(reason(number));
+    }
+    // Nothing is lost: what is cut off stands in the other two.
+    let (size_block, page_number) = (answer as u32, (answer >> 32) as u16);
+    let used = ((answer - PAGE_OPENS) >> 48) as u16;
+    if usize::from(used) > PAYLOAD_BYTES {
+        unknown(answer);
+    }
+    Ok(PageHeader {
+        size_block,
+        page_number,
+        used,
+    })
+}
+
 fn reason(number: u32) -> Reason {
     Reason::from_number(number).unwrap_or_else(|| unknown(number))
 }
 
-/// Nobody may take a number for an opening grant, or for a walk, that the header does
-/// not explain.
-fn unknown(number: u32) -> ! {
+/// Nobody may take a number for an opening grant or page, or for a walk, that the header
+/// does not explain.
+fn unknown(number: impl Into<u64>) -> ! {
+    let number = number.into();
     panic!("the library answered {number}, which the header does not have")
 }
 
 #[cfg(test)]
 mod tests {
-    use super::{done, opened, walked};
-    use crate::{Opened, Reason, Right, Walked, Way};
+    use super::{done, opened, page_opened, walked};
+    use crate::{Opened, PageHeader, Reason, Right, Walked, Way};
 
     #[test]
     fn zero_is_done_and_other_numbers_are_reasons() {
@@ -244,7 +346,7 @@ mod tests {
 
     #[test]
     fn a_number_of_no_reason_is_not_taken_for_anything() {
-        for number in [11, 25, 1001] {
+        for number in [14, 25, 1001] {
             assert!(std::panic::catch_unwind(|| done(number)).is_err());
         }
     }
@@ -268,7 +370,7 @@ mod tests {
 
     #[test]
     fn an_answer_that_the_header_does_not_have_opens_nothing() {
-        for answer in [0, 11, 999, 1000, 1201, 2000, 2201, 3001, u32::MAX] {
+        for answer in [0, 14, 999, 1000, 1201, 2000, 2201, 3001, u32::MAX] {
             assert!(std::panic::catch_unwind(|| opened(answer)).is_err());
         }
     }
@@ -294,8 +396,50 @@ mod tests {
 
     #[test]
     fn an_answer_that_the_header_does_not_have_is_no_walk() {
-        for answer in [0, 11, 25, 999, 1013, 2000, 2012, 3001, u32::MAX] {
+        for answer in [0, 14, 25, 999, 1013, 2000, 2012, 3001, u32::MAX] {
             assert!(std::panic::catch_unwind(|| walked(answer)).is_err());
+        }
+    }
+
+    #[test]
+    fn answers_from_2_to_63_on_are_pages() {
+        for (answer, size_block, page_number, used) in [
+            (0x8000_0000_0000_0000, 0, 0, 0),
+            (0x8000_0000_0000_000d, 13, 0, 0),
+            (0x8001_0203_0405_0607, 0x0405_0607, 0x0203, 1),
+            (0x81ec_ffff_ffff_ffff, u32::MAX, u16::MAX, 492),
+        ] {
+            let header = PageHeader {
+                size_block,
+                page_number,
+                used,
+            };
+            assert_eq!(page_opened(answer), Ok(header));
+        }
+    }
+
+    #[test]
+    fn a_page_is_refused_below_2_to_63() {
+        for reason in Reason::ALL {
+            assert_eq!(page_opened(reason.number().into()), Err(reason));
+        }
+    }
+
+    #[test]
+    fn an_answer_that_the_header_does_not_have_is_no_page() {
+        for answer in [
+            0,
+            14,
+            25,
+            1001,
+            (1 << 32) + 13,
+            (1 << 48) + 300,
+            (1 << 63) - 1,
+            0x81ed_0000_0000_0000,
+            0xffff_0000_0000_0000,
+            u64::MAX,
+        ] {
+            assert!(std::panic::catch_unwind(|| page_opened(answer)).is_err());
         }
     }
 }

@@ -4,19 +4,24 @@
 use std::error::Error;
 use std::fmt;
 
-/// Why a call refused. A call that refuses changes nothing.
+/// Why a call refused. A call that refuses changes nothing, but for the scratch of
+/// [`raw::open_page`](crate::raw::open_page).
+///
+/// Later versions may have more reasons: a `match` with an arm for others, `_`, stays whole.
 ///
 /// ```
-/// use gordzila::Reason;
+/// use gordzila::{PageKeys, Reason};
 ///
-/// let reason = gordzila::encipher(&[0; 11], 10, &[0; 12]).unwrap_err();
-/// assert_eq!(reason, Reason::KeyLength);
-/// assert_eq!(reason.number(), 1);
-/// assert_eq!(reason.to_string(), "key not 12, 18 or 24 bytes");
+/// let keys = PageKeys { first: &[1; 12], second: &[2; 12] };
+/// let reason = gordzila::seal_page(keys, 10, 300, 4, &[0; 493]).unwrap_err();
+/// assert_eq!(reason, Reason::PayloadTooLong);
+/// assert_eq!(reason.number(), 12);
+/// assert_eq!(reason.to_string(), "payload over 492 bytes");
 /// ```
 #[derive(Clone, Copy, Debug, PartialEq, Eq)]
 pub enum Reason {
-    /// 1: key not 12, 18 or 24 bytes.
+    /// 1: key not 12, 18 or 24 bytes; two keys for a page that are equal or of unequal
+    /// lengths.
     KeyLength = 1,
     /// 2: round count not 10..11, 14..17 or 18..23, by the key's length.
     RoundCount = 2,
@@ -24,7 +29,7 @@ pub enum Reason {
     /// bytes, or no multiple of 12.
     InputLength = 3,
     /// 4: out shorter than what is to be written; answers shorter than the number of
-    /// grants. Only the calls of [`raw`](crate::raw) can give it.
+    /// grants; scratch under 576 bytes. Only the calls of [`raw`](crate::raw) can give it.
     OutputTooShort = 4,
     /// 5: stage number not below the key's length in bytes; subkey list under 132
     /// bytes, over 288, or no multiple of 12.
@@ -40,6 +45,14 @@ pub enum Reason {
     /// 10: overwriting asked of a reading grant. The name is older than this rule, and
     /// stays for those who use it.
     OtherRight = 10,
+    /// 11: page not 512 bytes; used count over 492; bytes 8 to 11, or unused payload bytes,
+    /// not zero.
+    NotAPage = 11,
+    /// 12: payload over 492 bytes.
+    PayloadTooLong = 12,
+    /// 13: the page's check differs: it was changed, or sealed with another second key or
+    /// another round count.
+    CheckDiffers = 13,
     /// 20: contractor not in standing.
     NotInStanding = 20,
     /// 21: entering someone in standing.
@@ -56,7 +69,7 @@ pub enum Reason {
 
 impl Reason {
     /// Every reason, in the order of the numbers.
-    pub const ALL: [Reason; 15] = [
+    pub const ALL: [Reason; 18] = [
         Reason::KeyLength,
         Reason::RoundCount,
         Reason::InputLength,
@@ -67,6 +80,9 @@ impl Reason {
         Reason::NotAGrant,
         Reason::OtherBlock,
         Reason::OtherRight,
+        Reason::NotAPage,
+        Reason::PayloadTooLong,
+        Reason::CheckDiffers,
         Reason::NotInStanding,
         Reason::InStanding,
         Reason::CountSpent,
@@ -95,7 +111,10 @@ impl Reason {
 
     fn words(self) -> &'static str {
         match self {
-            Reason::KeyLength => "key not 12, 18 or 24 bytes",
+            Reason::KeyLength => {
+                "key not 12, 18 or 24 bytes; \
+                 two keys for a page that are equal or of unequal lengths"
+            }
             Reason::RoundCount => "round count not 10..11, 14..17 or 18..23, by the key's length",
             Reason::InputLength => {
                 "block or grant not 12 bytes; roll not 400 bytes; \
@@ -103,7 +122,7 @@ impl Reason {
             }
             Reason::OutputTooShort => {
                 "out shorter than what is to be written; \
-                 answers shorter than the number of grants"
+                 answers shorter than the number of grants; scratch under 576 bytes"
             }
             Reason::StageOrList => {
                 "stage number not below the key's length in bytes; \
@@ -114,6 +133,12 @@ impl Reason {
             Reason::NotAGrant => "the deciphered bytes have a wrong mark, contractor or right",
             Reason::OtherBlock => "grant for another size block",
             Reason::OtherRight => "overwriting asked of a reading grant",
+            Reason::NotAPage => {
+                "page not 512 bytes; used count over 492; \
+                 bytes 8 to 11, or unused payload bytes, not zero"
+            }
+            Reason::PayloadTooLong => "payload over 492 bytes",
+            Reason::CheckDiffers => "the page's check differs",
             Reason::NotInStanding => "contractor not in standing",
             Reason::InStanding => "entering someone in standing",
             Reason::CountSpent => "entering at count 65,534 or 65,535",
@@ -147,15 +172,15 @@ mod tests {
     }
 
     #[test]
-    fn the_numbers_are_1_to_10_and_20_to_24() {
+    fn the_numbers_are_1_to_13_and_20_to_24() {
         let numbers: Vec<u32> = Reason::ALL.into_iter().map(Reason::number).collect();
-        let expected: Vec<u32> = (1..=10).chain(20..=24).collect();
+        let expected: Vec<u32> = (1..=13).chain(20..=24).collect();
         assert_eq!(numbers, expected);
     }
 
     #[test]
     fn no_other_number_is_a_reason() {
-        for number in [0, 11, 19, 25, 257, 1001, 2200, u32::MAX] {
+        for number in [0, 14, 19, 25, 257, 1001, 2200, u32::MAX] {
             assert_eq!(Reason::from_number(number), None, "{number}");
         }
     }

@@ -8,9 +8,11 @@
 //! - No pointer is null: that of an empty slice is not null in Rust, though it points
 //!   to no byte. With the length 0, the header allows it.
 //! - What a call writes to is a `&mut` slice. Rust lets nothing else that is lent at
-//!   the same time overlap it.
+//!   the same time overlap it, another `&mut` slice included.
 //! - The slices are borrowed for the whole call, and the library keeps no pointer.
 //! - The calls have no state, so that any thread may make them at any time.
+
+use crate::PageKeys;
 
 extern "C" {
     fn gordzila_check(
@@ -51,6 +53,34 @@ extern "C" {
         out: *mut u8,
         out_length: usize,
     ) -> u32;
+    fn gordzila_seal_page(
+        first_key: *const u8,
+        first_key_length: usize,
+        second_key: *const u8,
+        second_key_length: usize,
+        rounds: u32,
+        size_block: u32,
+        page_number: u16,
+        payload: *const u8,
+        payload_length: usize,
+        scratch: *mut u8,
+        scratch_length: usize,
+        out: *mut u8,
+        out_length: usize,
+    ) -> u32;
+    fn gordzila_open_page(
+        first_key: *const u8,
+        first_key_length: usize,
+        second_key: *const u8,
+        second_key_length: usize,
+        rounds: u32,
+        page: *const u8,
+        page_length: usize,
+        scratch: *mut u8,
+        scratch_length: usize,
+        out: *mut u8,
+        out_length: usize,
+    ) -> u64;
     fn gordzila_encipher(
         key: *const u8,
         key_length: usize,
@@ -212,6 +242,65 @@ pub fn issue_number(
             contractor,
             size_block,
             right,
+            out.as_mut_ptr(),
+            out.len(),
+        )
+    }
+}
+
+/// The number that `gordzila_seal_page` answers: 0, or that of a reason.
+pub fn seal_page_number(
+    keys: PageKeys<'_>,
+    rounds: u32,
+    size_block: u32,
+    page_number: u16,
+    payload: &[u8],
+    scratch: &mut [u8],
+    out: &mut [u8],
+) -> u32 {
+    // SAFETY: pointers with the lengths of their slices; `scratch` and `out`, which are
+    // lent for writing, overlap no other slice.
+    unsafe {
+        gordzila_seal_page(
+            keys.first.as_ptr(),
+            keys.first.len(),
+            keys.second.as_ptr(),
+            keys.second.len(),
+            rounds,
+            size_block,
+            page_number,
+            payload.as_ptr(),
+            payload.len(),
+            scratch.as_mut_ptr(),
+            scratch.len(),
+            out.as_mut_ptr(),
+            out.len(),
+        )
+    }
+}
+
+/// The number that `gordzila_open_page` answers: that of a reason, or, where the page
+/// opens, 2^63 + 2^48 times the used count + 2^32 times the page number + the size block.
+pub fn open_page_number(
+    keys: PageKeys<'_>,
+    rounds: u32,
+    page: &[u8],
+    scratch: &mut [u8],
+    out: &mut [u8],
+) -> u64 {
+    // SAFETY: pointers with the lengths of their slices; `scratch` and `out`, which are
+    // lent for writing, overlap no other slice.
+    unsafe {
+        gordzila_open_page(
+            keys.first.as_ptr(),
+            keys.first.len(),
+            keys.second.as_ptr(),
+            keys.second.len(),
+            rounds,
+            page.as_ptr(),
+            page.len(),
+            scratch.as_mut_ptr(),
+            scratch.len(),
             out.as_mut_ptr(),
             out.len(),
         )

@@ -3,6 +3,7 @@
 mod cipher;
 mod grants;
 mod lives;
+mod pages;
 mod queues;
 mod rolls;
 mod running;

@@ -1,5 +1,6 @@
 //! What the tests share: running the tool, and a directory for each test.
 
+use gordzila::PageKeys;
 use std::ffi::OsStr;
 use std::fs::{self, File};
 use std::io::Write;
@@ -11,6 +12,17 @@ pub const TOOL: &str = env!("CARGO_BIN_EXE_gordzila");
 
 /// A key of 12 bytes, for 10 or 11 rounds.
 pub const KEY: &str = "000102030405060708090a0b";
+
+/// Another key of 12 bytes.
+pub const OTHER_KEY: &str = "0f1e2d3c4b5a69788796a5b4";
+
+/// The two as keys of pages.
+pub const PAGE_KEYS: PageKeys<'static> = PageKeys {
+    first: &[0, 1, 2, 3, 4, 5, 6, 7, 8, 9, 10, 11],
+    second: &[
+        0x0f, 0x1e, 0x2d, 0x3c, 0x4b, 0x5a, 0x69, 0x78, 0x87, 0x96, 0xa5, 0xb4,
+    ],
+};
 
 /// What a run of the tool came to.
 #[derive(Debug, PartialEq, Eq)]

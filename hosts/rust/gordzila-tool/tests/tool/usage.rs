@@ -1,17 +1,21 @@
 //! Bad usage, help and the version.
 
-use crate::running::{line, run, run_unheard, Room, KEY};
+use crate::running::{line, run, run_unheard, Room, KEY, OTHER_KEY, PAGE_KEYS};
 use std::ffi::OsStr;
 use std::fs;
 use std::os::unix::ffi::OsStrExt;
-use std::path::Path;
+use std::path::{Path, PathBuf};
 
 /// Each subcommand with all its options, `ROLL` for the name of a roll, `GRANTS` for that
-/// of a file with one line.
-const COMPLETE: [&str; 11] = [
+/// of a file with one line, `PAGE` for that of a page, and names that end in 2 for those of
+/// files that are made.
+const COMPLETE: [&str; 13] = [
     "issue --key KEY --rounds 10 --roll ROLL --contractor 7 --block 300 --right 2",
     "check --key KEY --rounds 10 --roll ROLL --grant KEY --block 300 --right 2",
     "queue --key KEY --rounds 10 --roll ROLL --grants GRANTS --block 300 --right 2",
+    "seal --first-key KEY --second-key OTHER --rounds 10 --block 300 --page-number 4 \
+     --payload GRANTS --page PAGE2",
+    "open --first-key KEY --second-key OTHER --rounds 10 --page PAGE --payload PAYLOAD2",
     "encipher --key KEY --rounds 10 --block KEY",
     "decipher --key KEY --rounds 10 --block KEY",
     "stage --key KEY --stage 3",
@@ -24,15 +28,20 @@ const COMPLETE: [&str; 11] = [
 
 /// The words of a complete line, over a roll on which contractor 7 is in standing.
 fn words(complete: &str, room: &Room) -> Vec<String> {
-    let roll = room.roll(&[(7, 1)]).to_str().unwrap().to_string();
-    let grants = room.file("grants", KEY.as_bytes());
+    let named = |path: PathBuf| path.to_str().unwrap().to_string();
+    let roll = named(room.roll(&[(7, 1)]));
+    let grants = named(room.file("grants", KEY.as_bytes()));
+    let sealed = gordzila::seal_page(PAGE_KEYS, 10, 300, 4, b"front panel").unwrap();
+    let page = named(room.file("page", &sealed));
     complete
         .split(' ')
         .map(|word| match word {
             "KEY" => KEY.to_string(),
+            "OTHER" => OTHER_KEY.to_string(),
             "ROLL" => roll.clone(),
-            "ROLL2" => format!("{roll}2"),
-            "GRANTS" => grants.to_str().unwrap().to_string(),
+            "GRANTS" => grants.clone(),
+            "PAGE" => page.clone(),
+            "ROLL2" | "PAGE2" | "PAYLOAD2" => named(room.path(word)),
             _ => word.to_string(),
         })
         .collect()
@@ -66,7 +75,11 @@ fn every_option_is_needed() {
         for at in (first_option(&words)..words.len()).step_by(2) {
             let mut fewer = words.clone();
             fewer.drain(at..at + 2);
-            let needed = words[at].replace("--key", "--key or --key-file");
+            let option = &words[at];
+            let needed = match option.ends_with("-key") {
+                true => format!("{option} or {option}-file"),
+                false => option.clone(),
+            };
             run(&fewer).stopped(&format!("{needed} is missing"));
         }
     }
@@ -123,6 +136,8 @@ fn no_other_option_is_taken() {
     line("walk --stage 3").stopped("`--stage` is no option");
     line("queue --grant 00").stopped("`--grant` is no option");
     line("check --grants x").stopped("`--grants` is no option");
+    line("seal --key 00").stopped("`--key` is no option");
+    line("open --block 300").stopped("`--block` is no option");
 }
 
 #[test]
@@ -132,6 +147,7 @@ fn numbers_are_not_cut() {
         "--rounds",
         "--contractor",
         "--block",
+        "--page-number",
         "--right",
         "--stage",
         "--from",
@@ -165,7 +181,8 @@ fn bytes_are_whole_hexadecimal_digits() {
     let room = Room::new("digits");
     for complete in COMPLETE {
         let words = words(complete, &room);
-        for at in (0..words.len()).filter(|&at| words[at] == KEY) {
+        let is_key = |at: &usize| [KEY, OTHER_KEY].contains(&&words[*at][..]);
+        for at in (0..words.len()).filter(is_key) {
             for wrong in ["0", "0g", "0x00", "00 11", "00-11", "\u{661}\u{661}"] {
                 let mut words = words.clone();
                 words[at] = wrong.to_string();
@@ -179,6 +196,31 @@ fn bytes_are_whole_hexadecimal_digits() {
 fn a_key_comes_from_one_place() {
     let both = format!("stage --stage 0 --key {KEY} --key-file x");
     line(&both).stopped("--key and --key-file are given");
+    for name in ["--first-key", "--second-key"] {
+        let both = format!("seal --first-key {KEY} --second-key {KEY} {name}-file x");
+        line(&both).stopped(&format!("{name} and {name}-file are given"));
+    }
+}
+
+#[test]
+fn a_page_number_has_16_bits() {
+    let room = Room::new("page-number");
+    for (number, is_right) in [
+        ("0", true),
+        ("65535", true),
+        ("65536", false),
+        ("131076", false),
+    ] {
+        let mut words = words(COMPLETE[3], &room);
+        let at = words.iter().position(|word| word == "4").unwrap();
+        words[at] = number.to_string();
+        let page = words.last_mut().unwrap();
+        page.push_str(number);
+        match is_right {
+            true => assert!(run(&words).done().contains(&format!(" page {number},"))),
+            false => run(&words).stopped("--page-number: a number above 65535"),
+        }
+    }
 }
 
 #[test]
@@ -198,7 +240,7 @@ fn words_may_be_no_text() {
 #[test]
 fn a_subcommand_is_needed() {
     run::<&str>(&[]).stopped("a subcommand is missing");
-    line("open").stopped("`open` is no subcommand");
+    line("close").stopped("`close` is no subcommand");
     line("--key 00").stopped("`--key` is no subcommand");
     line("roll").stopped("`make` or `list`");
     line("roll mend --roll x").stopped("`mend`");
@@ -210,8 +252,8 @@ fn help_is_there_for_all() {
     let tool = line("--help").done();
     assert_eq!(line("help").done(), tool);
     for name in [
-        "issue", "check", "queue", "encipher", "decipher", "stage", "walk", "enter", "withdraw",
-        "roll",
+        "issue", "check", "queue", "seal", "open", "encipher", "decipher", "stage", "walk",
+        "enter", "withdraw", "roll",
     ] {
         let help = line(&format!("help {name}")).done();
         assert!(help.contains(&format!("usage: gordzila {name} ")), "{help}");
@@ -222,7 +264,7 @@ fn help_is_there_for_all() {
         assert!(help.lines().all(|line| line.len() <= 80), "{help}");
     }
     assert!(tool.lines().all(|line| line.len() <= 80), "{tool}");
-    line("help open").stopped("`open` is no subcommand");
+    line("help close").stopped("`close` is no subcommand");
     line("help issue check").stopped("help takes one subcommand");
 }
 
@@ -231,10 +273,16 @@ fn help_names_every_option() {
     for complete in COMPLETE {
         let mut words = complete.split(' ');
         let help = line(&format!("help {}", words.next().unwrap())).done();
+        let mut keys = 0;
         for option in words.filter(|word| word.starts_with("--")) {
             assert!(help.contains(&format!("  {option} ")), "{option}: {help}");
+            if option.ends_with("-key") {
+                let file = format!("  {option}-file FILE ");
+                assert!(help.contains(&file), "{option}: {help}");
+                keys += 1;
+            }
         }
-        assert_eq!(complete.contains("--key"), help.contains("--key-file FILE"));
+        assert_eq!(help.matches("-file FILE").count(), keys, "{help}");
     }
 }
 
@@ -275,6 +323,23 @@ fn help_tells_what_the_status_of_a_queue_says() {
     }
 }
 
+/// A page that opens must not be taken for the one that was wanted.
+#[test]
+fn help_tells_what_a_page_is_not() {
+    for (name, words) in [
+        ("seal", "These three stand in the page for all to read"),
+        ("seal", "- stands for standard input"),
+        ("seal", "one that exists is not replaced"),
+        ("open", "see that the numbers are those that you wanted"),
+        ("open", "An older page with the same numbers opens too"),
+        ("open", "- stands for standard input"),
+        ("open", "one that exists is not replaced"),
+    ] {
+        let help = line(&format!("help {name}")).done();
+        assert!(help.replace('\n', " ").contains(words), "{words}: {help}");
+    }
+}
+
 #[test]
 fn help_tells_of_the_lock() {
     for name in ["enter", "withdraw", "roll"] {
@@ -303,7 +368,7 @@ fn output_that_gets_lost_is_told() {
         "help issue",
         COMPLETE[0],
         COMPLETE[2],
-        COMPLETE[9],
+        COMPLETE[11],
     ] {
         let run = run_unheard(&words(complete, &room));
         // These change nothing.

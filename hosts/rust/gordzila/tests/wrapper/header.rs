@@ -3,7 +3,8 @@
 
 use crate::repository_file;
 use gordzila::{
-    Reason, Right, BLOCK_BYTES, HOLDER_BYTES, QUEUE_MOST_GRANTS, ROLL_BYTES, STAGE_BYTES,
+    Reason, Right, BLOCK_BYTES, HOLDER_BYTES, PAGE_BYTES, PAYLOAD_BYTES, QUEUE_MOST_GRANTS,
+    ROLL_BYTES, SCRATCH_BYTES, STAGE_BYTES,
 };
 
 const HEADER: &str = "include/gordzila.h";
@@ -44,6 +45,8 @@ fn the_rights_and_lengths_are_those_of_the_header() {
         format!("GORDZILA_HOLDER_BYTES = {HOLDER_BYTES} }}"),
         format!("GORDZILA_QUEUE_MOST_GRANTS = {QUEUE_MOST_GRANTS},"),
         format!("GORDZILA_LONGEST_QUEUE_BYTES = {longest_queue} }}"),
+        format!("GORDZILA_PAGE_BYTES = {PAGE_BYTES}, GORDZILA_PAYLOAD_BYTES = {PAYLOAD_BYTES},"),
+        format!("GORDZILA_SCRATCH_BYTES = {SCRATCH_BYTES} }}"),
     ] {
         assert!(header.contains(&text), "{text}");
     }
@@ -68,14 +71,20 @@ fn the_version_is_that_of_the_library_and_of_the_newest_changes() {
 fn the_declarations_are_those_of_the_header() {
     let header = in_c(&repository_file(HEADER));
     let declared = in_rust(&repository_file(DECLARATIONS));
-    assert_eq!(header.len(), 17);
+    assert_eq!(header.len(), 19);
     assert_eq!(declared, header);
 }
 
-/// Each function of the header as its name and its parameters, written as in Rust.
+/// Each function of the header as its name, its parameters and the bits that it returns,
+/// written as in Rust.
 fn in_c(text: &str) -> Vec<String> {
-    functions(text, "\nuint32_t gordzila_", ");")
-        .map(|(name, list)| signature(name, list.split(',').map(parameter_in_c)))
+    let returning = text.split("\nuint").skip(1);
+    returning
+        .map(|rest| {
+            let (bits, rest) = rest.split_once("_t gordzila_").unwrap();
+            let (name, list, _) = parts(rest, ");");
+            signature(name, list.split(',').map(parameter_in_c), bits)
+        })
         .collect()
 }
 
@@ -87,6 +96,7 @@ fn parameter_in_c(parameter: &str) -> String {
         ("uint8_t *", "*mut u8"),
         ("size_t ", "usize"),
         ("uint32_t ", "u32"),
+        ("uint16_t ", "u16"),
     ] {
         if let Some(name) = parameter.strip_prefix(c) {
             return format!("{name}: {rust}");
@@ -95,29 +105,43 @@ fn parameter_in_c(parameter: &str) -> String {
     panic!("a parameter that the test does not know: {parameter}")
 }
 
-/// Each declared function as its name and its parameters.
+/// Each declared function as its name, its parameters and the bits that it returns.
 fn in_rust(text: &str) -> Vec<String> {
-    functions(text, "\n    fn gordzila_", ") -> u32;")
-        .map(|(name, list)| {
+    let declared = text.split("\n    fn gordzila_").skip(1);
+    declared
+        .map(|rest| {
+            let (name, list, rest) = parts(rest, ") -> u");
+            let (bits, _) = rest.split_once(';').unwrap();
             let parameters = list.split(',').map(|one| one.trim().to_string());
-            signature(name, parameters.filter(|one| !one.is_empty()))
+            signature(name, parameters.filter(|one| !one.is_empty()), bits)
         })
         .collect()
 }
 
-/// The names and parameter lists of functions, by what stands before and after them.
-fn functions<'a>(
-    text: &'a str,
-    before: &'a str,
-    after: &'a str,
-) -> impl Iterator<Item = (&'a str, &'a str)> {
-    text.split(before).skip(1).map(move |rest| {
-        let (name, rest) = rest.split_once('(').unwrap();
-        let (list, _) = rest.split_once(after).unwrap();
-        (name, list)
-    })
+/// The name and the parameter list of a function, by what stands after them, and the rest.
+fn parts<'a>(text: &'a str, after: &str) -> (&'a str, &'a str, &'a str) {
+    let (name, rest) = text.split_once('(').unwrap();
+    let (list, rest) = rest.split_once(after).unwrap();
+    (name, list, rest)
 }
 
-fn signature(name: &str, parameters: impl Iterator<Item = String>) -> String {
-    format!("{name}({})", parameters.collect::<Vec<_>>().join(", "))
+fn signature(name: &str, parameters: impl Iterator<Item = String>, bits: &str) -> String {
+    let parameters: Vec<String> = parameters.collect();
+    format!("{name}({}) -> u{bits}", parameters.join(", "))
+}
+
+/// What differs in a type alone has to be seen.
+#[test]
+fn a_declaration_that_differs_is_told_apart() {
+    let header = "\nuint64_t gordzila_one(uint8_t *out, size_t out_length, uint16_t n);";
+    let declared = "\n    fn gordzila_one(\n        out: *mut u8,\n        \
+                    out_length: usize,\n        n: u16,\n    ) -> u64;";
+    assert_eq!(
+        in_c(header),
+        ["one(out: *mut u8, out_length: usize, n: u16) -> u64"]
+    );
+    assert_eq!(in_rust(declared), in_c(header));
+    for (from, to) in [("u64", "u32"), ("n: u16", "n: u32"), ("*mut", "*const")] {
+        assert_ne!(in_rust(&declared.replace(from, to)), in_c(header), "{to}");
+    }
 }

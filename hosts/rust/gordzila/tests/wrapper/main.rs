@@ -5,6 +5,7 @@ mod header;
 mod holder_refusals;
 mod holders;
 mod lives;
+mod pages;
 mod queues;
 mod readers;
 mod refusals;

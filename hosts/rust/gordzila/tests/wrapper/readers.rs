@@ -2,16 +2,25 @@
 //! answer has to be what they say of it.
 
 use crate::repository_file;
-use gordzila::{raw, KeyHolder, Opened, Right, Roll, Walked, Way};
+use gordzila::{raw, KeyHolder, Opened, PageHeader, PageKeys, Right, Roll, Walked, Way};
 
 /// The readers, each as it stands in the header.
-const READERS: [&str; 7] = [
+const READERS: [&str; 12] = [
     "int gordzila_opens(uint32_t answer) { return answer >= 1000; }",
     "uint32_t gordzila_answered_right(uint32_t answer) { return answer / 1000; }",
     "uint32_t gordzila_answered_contractor(uint32_t answer) \
      { return gordzila_opens(answer) ? answer % 1000 : 0; }",
     "int gordzila_queue_opens(uint32_t returned, uint8_t byte) \
      { return returned == 0 && byte == 0; }",
+    "int gordzila_page_opens(uint64_t answer) { return answer >> 63 == 1; }",
+    "uint32_t gordzila_page_refusal(uint64_t answer) \
+     { return gordzila_page_opens(answer) ? 0 : (uint32_t)answer; }",
+    "uint32_t gordzila_opened_size_block(uint64_t answer) \
+     { return gordzila_page_opens(answer) ? (uint32_t)answer : 0; }",
+    "uint16_t gordzila_opened_page_number(uint64_t answer) \
+     { return gordzila_page_opens(answer) ? (uint16_t)(answer >> 32) : 0; }",
+    "uint16_t gordzila_opened_used(uint64_t answer) \
+     { return gordzila_page_opens(answer) ? (uint16_t)(answer >> 48 & 32767) : 0; }",
     "int gordzila_walked(uint32_t answer) { return answer >= 1000; }",
     "uint32_t gordzila_walked_steps(uint32_t answer) \
      { return gordzila_walked(answer) ? answer % 1000 : 0; }",
@@ -28,6 +37,18 @@ fn read_check(answer: u32) -> (bool, u32, u32) {
 /// What the fourth says: whether a grant of a queue opens.
 fn read_queue(returned: u32, byte: u8) -> bool {
     returned == 0 && byte == 0
+}
+
+/// What the next five say: whether a page opens, the number of the refusal, the size block,
+/// the page number and the used count.
+fn read_page(answer: u64) -> (bool, u32, u32, u16, u16) {
+    match answer >> 63 == 1 {
+        true => {
+            let used = (answer >> 48 & 32767) as u16;
+            (true, 0, answer as u32, (answer >> 32) as u16, used)
+        }
+        false => (false, answer as u32, 0, 0, 0),
+    }
 }
 
 /// What the others say: whether a holder walked, how many steps, and whether back.
@@ -87,6 +108,28 @@ fn a_queue_says_what_the_reader_says() {
             Err(_) => vec![false; 3],
         };
         assert_eq!(said, answers.map(|byte| read_queue(returned, byte)));
+    }
+}
+
+#[test]
+fn an_opening_says_what_the_readers_say() {
+    let (first, second) = (&[1; 12], &[2; 12]);
+    let keys = PageKeys { first, second };
+    for (block, number, used) in [(0, 0, 0), (13, 1, 1), (u32::MAX, u16::MAX, 492)] {
+        let page = gordzila::seal_page(keys, 10, block, number, &vec![3; used]).unwrap();
+        for (rounds, page) in [(9, &page[..]), (10, &page), (11, &page), (10, &page[1..])] {
+            let (mut scratch, mut out) = ([0; 576], [0; 492]);
+            let answer = raw::open_page_number(keys, rounds, page, &mut scratch, &mut out);
+            let said = match raw::open_page(keys, rounds, page, &mut scratch, &mut out) {
+                Ok(PageHeader {
+                    size_block,
+                    page_number,
+                    used,
+                }) => (true, 0, size_block, page_number, used),
+                Err(reason) => (false, reason.number(), 0, 0, 0),
+            };
+            assert_eq!(said, read_page(answer));
+        }
     }
 }
 

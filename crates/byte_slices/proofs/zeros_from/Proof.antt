@@ -1,12 +1,12 @@
--- `holder::zeros_from` meets its contract.
+-- `byte_slices::zeros_from` meets its contract.
 use mathlib.Core.Path.{_≡_, refl, sym, _∙_}
 use Prim.Native.Nat.{_-_}
 use lib.ListN.{length, drop}
-use Rattle.holder.specs.Holder.{allZero}
-use Rattle.holder.proofs.Zeros.{zero-next, not-zero, zero-end}
+use Rattle.byte_slices.specs.Slices.{allZero}
+use Rattle.byte_slices.proofs.Zeros.{zero-next, not-zero, zero-end}
 use borrow.Author.Needs.{needs}
-use Rattle.holder.proofs.zeros_from.Statement.{statement}
-use Rattle.holder.proofs.zeros_from.Tie as tie
+use Rattle.byte_slices.proofs.zeros_from.Statement.{statement}
+use Rattle.byte_slices.proofs.zeros_from.Tie as tie
 
 abbrev Inv-loop : tie.InvT-loop
 Inv-loop bytes n i₀ i = allZero (drop n bytes) ≡ allZero (drop i bytes)

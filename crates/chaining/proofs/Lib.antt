@@ -1,0 +1,3 @@
+pub mod Restored
+pub mod Bytes
+pub mod Claims

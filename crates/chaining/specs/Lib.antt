@@ -1,0 +1,3 @@
+pub mod Chaining
+pub mod Claims
+pub mod ForProver

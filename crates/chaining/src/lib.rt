@@ -1,0 +1,1 @@
+// Blocks chained: definitions, laws and claims; no code.

@@ -1,0 +1,2 @@
+pub mod KeyPairs
+pub mod KnownAnswers

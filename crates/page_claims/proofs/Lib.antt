@@ -1,0 +1,5 @@
+pub mod Restored
+pub mod Settings
+pub mod Pages
+pub mod Codes
+pub mod Claims

@@ -1,0 +1,3 @@
+pub mod Pages
+pub mod Keyed
+pub mod KnownAnswers
