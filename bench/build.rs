@@ -1,5 +1,5 @@
-//! Compiles the C baselines, and links them, the library's archive and, if it is
-//! installed, libtomcrypt.
+//! Compiles the C baselines, and links them, the library's archive, that of an
+//! earlier version, if one is named, and, if it is installed, libtomcrypt.
 
 use std::env;
 use std::fs;
@@ -17,18 +17,22 @@ const CC: &str = "gcc";
 /// that the archive is made for.
 const CFLAGS: &str = "-O3 -march=x86-64";
 
-/// The other compiler, for one more row.
+/// The other compiler, for two more rows.
 const CLANG: &str = "clang";
 
 /// Keeps gcc from gathering the bytes of a state into vectors.
 const NO_VECTORS: &str = "-fno-tree-slp-vectorize";
 
+/// Has plain.c do the diffusion a row of four columns in a word at a time.
+const WORDS: &str = "-DWORDS";
+
 /// The flags that do not change the code.
 const STRICT: [&str; 5] = ["-std=c11", "-Wall", "-Wextra", "-Wpedantic", "-Werror"];
 
 /// The C files, and what they include.
-const SOURCES: [&str; 7] = [
+const SOURCES: [&str; 8] = [
     "baseline.h",
+    "before.c",
     "build.rs",
     "calls.h",
     "others.c",
@@ -36,6 +40,12 @@ const SOURCES: [&str; 7] = [
     "plain.c",
     "table.c",
 ];
+
+/// What stands in front of every name of an earlier version, as in before.c.
+const BEFORE: &str = "before_";
+
+/// What an archive may take from the C library.
+const FROM_C: [&str; 4] = ["memcmp", "memcpy", "memmove", "memset"];
 
 /// Files that come and go with what may be missing, so that an installation is
 /// noticed.
@@ -50,6 +60,7 @@ fn main() {
     link_clang(&out);
     link_others(&out);
     link_library(&out);
+    link_before(&out);
     println!("cargo:rustc-link-search=native={}", out.display());
     hand_on("INDEPENDENT", &independent());
 }
@@ -59,25 +70,28 @@ fn link_baselines(out: &Path) {
     let compiler = setting("BENCH_CC", CC);
     let flags = setting("BENCH_CFLAGS", CFLAGS);
     let scalar = format!("{flags} {NO_VECTORS}");
+    let words = format!("{flags} {WORDS}");
     link_baseline(out, "plain_c", "plain.c", &compiler, &flags);
     link_baseline(out, "plain_scalar", "plain.c", &compiler, &scalar);
+    link_baseline(out, "plain_words", "plain.c", &compiler, &words);
     link_baseline(out, "table_c", "table.c", &compiler, &flags);
     link_baseline(out, "table_scalar", "table.c", &compiler, &scalar);
 }
 
-/// The baseline that clang compiles, if there is one. Without it, BENCH_PLAIN_CLANG
-/// says so.
+/// The baselines that clang compiles, if it is installed. Without it, BENCH_PLAIN_CLANG
+/// and BENCH_PLAIN_WORDS_CLANG say so.
 fn link_clang(out: &Path) {
     println!("cargo:rustc-check-cfg=cfg(bench_clang)");
     if has_clang() {
         let flags = setting("BENCH_CFLAGS", CFLAGS);
+        let words = format!("{flags} {WORDS}");
         link_baseline(out, "plain_clang", "plain.c", CLANG, &flags);
+        link_baseline(out, "plain_words_clang", "plain.c", CLANG, &words);
         println!("cargo:rustc-cfg=bench_clang");
     } else {
-        hand_on(
-            "PLAIN_CLANG",
-            "clang is not installed: this row is left out",
-        );
+        for name in ["PLAIN_CLANG", "PLAIN_WORDS_CLANG"] {
+            hand_on(name, "clang is not installed: this row is left out");
+        }
     }
 }
 
@@ -139,11 +153,42 @@ fn link_library(out: &Path) {
     });
     fs::write(out.join("libgordzila.a"), &bytes).expect("the archive can be copied");
     println!("cargo:rustc-link-lib=static=gordzila");
-    let (length, checksum) = (bytes.len(), fnv_1a(&bytes));
-    hand_on(
-        "LIBRARY",
-        &format!("archive of {length} bytes, FNV-1a {checksum:016x}"),
-    );
+    hand_on("LIBRARY", &described(&bytes));
+}
+
+/// The archive of an earlier version, if GORDZILA_BEFORE names one, as a baseline.
+fn link_before(out: &Path) {
+    println!("cargo:rustc-check-cfg=cfg(bench_before)");
+    let Some(archive) = given("GORDZILA_BEFORE") else {
+        return;
+    };
+    println!("cargo:rerun-if-changed={archive}");
+    let bytes = fs::read(&archive).unwrap_or_else(|error| {
+        panic!("{archive}: {error}; GORDZILA_BEFORE has to name an earlier version's archive")
+    });
+    let copy = out.join("libgordzila_before.a");
+    fs::write(&copy, &bytes).expect("the archive can be copied");
+    rename(&copy);
+    let named = format!("{CFLAGS} -DBASELINE=library_before");
+    compile(out, "library_before", "before.c", CC, &named);
+    println!("cargo:rustc-link-lib=static=gordzila_before");
+    hand_on("LIBRARY_BEFORE", &described(&bytes));
+    println!("cargo:rustc-cfg=bench_before");
+}
+
+/// Sets the prefix in front of every name in an archive, and takes it from those of the
+/// C library again. In one run objcopy would look for these before it sets the prefix.
+fn rename(archive: &Path) {
+    let prefix = format!("--prefix-symbols={BEFORE}");
+    run(Command::new("objcopy").arg(prefix).arg(archive));
+    let back = FROM_C.map(|name| format!("--redefine-sym={BEFORE}{name}={name}"));
+    run(Command::new("objcopy").args(back).arg(archive));
+}
+
+/// An archive by its length and its checksum.
+fn described(archive: &[u8]) -> String {
+    let (length, checksum) = (archive.len(), fnv_1a(archive));
+    format!("archive of {length} bytes, FNV-1a {checksum:016x}")
 }
 
 /// A 64-bit checksum, to tell which archive a table was made with.
@@ -170,8 +215,13 @@ fn hand_on(name: &str, value: &str) {
 
 /// What an environment variable of the user sets, or what holds without it.
 fn setting(name: &str, default: &str) -> String {
+    given(name).unwrap_or_else(|| default.to_string())
+}
+
+/// What an environment variable of the user sets, if it is there.
+fn given(name: &str) -> Option<String> {
     println!("cargo:rerun-if-env-changed={name}");
-    env::var(name).unwrap_or_else(|_| default.to_string())
+    env::var(name).ok()
 }
 
 /// What cargo sets.

@@ -190,12 +190,18 @@ pub const LIBRARY: Interface = Interface {
     open_page: gordzila_open_page,
 };
 
-// What the C files give out, once for every compiler and set of flags.
+// What the C files give out, once for every compiler and set of flags, and before.c
+// for an earlier version of the library.
 extern "C" {
+    #[cfg(bench_before)]
+    static library_before: Interface;
     static plain_c: Interface;
     static plain_scalar: Interface;
+    static plain_words: Interface;
     #[cfg(bench_clang)]
     static plain_clang: Interface;
+    #[cfg(bench_clang)]
+    static plain_words_clang: Interface;
     static table_c: Interface;
     static table_scalar: Interface;
 }
@@ -203,13 +209,15 @@ extern "C" {
 /// The name of the baseline that the targets are set against.
 pub const PLAIN: &str = "plain C";
 
-/// A C file under one compiler and one set of flags.
+/// A C file under one compiler and one set of flags, or an earlier version of the
+/// library.
 pub struct Baseline {
     pub name: &'static str,
     pub interface: Interface,
 }
 
-/// The baselines. The first is plain C.
+/// The baselines. The first is the library before, if there is one, and the next is
+/// plain C.
 pub fn baselines() -> Vec<Baseline> {
     let one = |name, interface: &Interface| Baseline {
         name,
@@ -218,10 +226,15 @@ pub fn baselines() -> Vec<Baseline> {
     // The structures are constant, and their calls have the types above.
     unsafe {
         vec![
+            #[cfg(bench_before)]
+            one("library before", &library_before),
             one(PLAIN, &plain_c),
             one("plain C, no SLP", &plain_scalar),
+            one("plain C, words", &plain_words),
             #[cfg(bench_clang)]
             one("plain C, clang", &plain_clang),
+            #[cfg(bench_clang)]
+            one("plain C, words, clang", &plain_words_clang),
             one("table C", &table_c),
             one("table C, no SLP", &table_scalar),
         ]

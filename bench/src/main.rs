@@ -47,16 +47,23 @@ fn describe() {
     let lines = [
         ("machine", machine()),
         ("library", env!("BENCH_LIBRARY").to_string()),
+        #[cfg(bench_before)]
+        ("library before", env!("BENCH_LIBRARY_BEFORE").to_string()),
         ("plain C", env!("BENCH_PLAIN_C").to_string()),
         ("plain C, no SLP", env!("BENCH_PLAIN_SCALAR").to_string()),
+        ("plain C, words", env!("BENCH_PLAIN_WORDS").to_string()),
         ("plain C, clang", env!("BENCH_PLAIN_CLANG").to_string()),
+        (
+            "plain C, words, clang",
+            env!("BENCH_PLAIN_WORDS_CLANG").to_string(),
+        ),
         ("table C", env!("BENCH_TABLE_C").to_string()),
         ("table C, no SLP", env!("BENCH_TABLE_SCALAR").to_string()),
         ("independent Rust", env!("BENCH_INDEPENDENT").to_string()),
         ("libtomcrypt", others::version()),
     ];
     for (name, text) in lines {
-        println!("{name:<18}{text}");
+        println!("{name:<23}{text}");
     }
 }
 

@@ -8,7 +8,10 @@
 //!
 //! - `sbox` draws nothing.
 //! - `layers` does this 32 times: draw IN (12 bytes), draw KEY (12 bytes), print
-//!   the lines gamma, pi, theta and sigma, which all have the same IN.
+//!   the lines gamma, pi, theta and sigma, which all have the same IN. Then it
+//!   prints 97 more lines theta and draws nothing for them: for d = 01, 02, 04,
+//!   and so on up to 80 (hex), and for each of these for p = 0 to 11, IN is byte d
+//!   at position p and 00 at all others; the last IN is twelve bytes ff.
 //! - `rounds` does this 4 times for R = 1, then 4 times for R = 2, and so on up
 //!   to R = 23: draw LIST (12(R+1) bytes, subkey 0 first), draw IN (12 bytes),
 //!   print the lines rounds, inverse and turned, which all have the same LIST.
@@ -90,7 +93,8 @@ pub fn sbox_text() -> String {
     text
 }
 
-/// Values of the four layers (sections 3.1 to 3.4).
+/// Values of the four layers (sections 3.1 to 3.4), then those of theta that
+/// determine it.
 pub fn layers_text() -> String {
     let mut generator = Generator::new(SEED);
     let mut text = String::new();
@@ -99,6 +103,7 @@ pub fn layers_text() -> String {
         let key = draw_state(&mut generator);
         add_layer_lines(&mut text, &state, &key);
     }
+    add_basis_lines(&mut text);
     text
 }
 
@@ -107,9 +112,32 @@ fn add_layer_lines(text: &mut String, state: &State, key: &State) {
     let input = matrix_hex(state);
     add_line(text, &["gamma", &input, &matrix_hex(&gamma(state))]);
     add_line(text, &["pi", &input, &matrix_hex(&pi(state))]);
-    add_line(text, &["theta", &input, &matrix_hex(&theta(state))]);
+    add_theta_line(text, state);
     let sum = matrix_hex(&sigma(key, state));
     add_line(text, &["sigma", &input, &matrix_hex(key), &sum]);
+}
+
+/// The line of theta (section 3.3) for one state.
+fn add_theta_line(text: &mut String, state: &State) {
+    let output = matrix_hex(&theta(state));
+    add_line(text, &["theta", &matrix_hex(state), &output]);
+}
+
+/// The lines of theta (section 3.3) for the 96 states that have a single bit, and
+/// for the sum of them all. Theta is linear, so that the 96 determine it.
+fn add_basis_lines(text: &mut String) {
+    for bit in 0..8 {
+        for position in 0..12 {
+            add_theta_line(text, &single_byte(position, 1 << bit));
+        }
+    }
+    add_theta_line(text, &Matrix::from_rule(|_, _| 0xFF));
+}
+
+/// The state that has the given byte at one position, by columns (section 3.5), and
+/// zero at the eleven others.
+fn single_byte(position: usize, byte: u8) -> State {
+    Matrix::from_rule(|i, j| if i + 3 * j == position { byte } else { 0 })
 }
 
 /// Encryptions over lists of arbitrary subkeys, their literal inverses, and the

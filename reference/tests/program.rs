@@ -94,8 +94,8 @@ fn sbox_prints_the_published_table() {
 fn layers_draws_its_inputs_as_documented() {
     let mut draw = Draw::new();
     let printed = lines("layers");
-    assert_eq!(printed.len(), 32 * 4);
-    for group in printed.chunks(4) {
+    assert_eq!(printed.len(), 32 * 4 + 97);
+    for group in printed[..32 * 4].chunks(4) {
         let (state, key) = (draw.hex(12), draw.hex(12));
         for (line, name) in group.iter().zip(["gamma", "pi", "theta"]) {
             assert_eq!(line[..2], [name, &state]);
@@ -104,6 +104,55 @@ fn layers_draws_its_inputs_as_documented() {
         assert_eq!(group[3][..3], ["sigma", &state, &key]);
         assert_eq!((group[3].len(), group[3][3].len()), (4, 24));
     }
+}
+
+/// Section 2.1: the product of a field element and a number from 0 to 7, which is a
+/// polynomial of degree 2 at most. Each shift is reduced by 14D at once.
+fn product(element: u8, small: u8) -> u8 {
+    let mut shifted = u16::from(element);
+    let mut sum = 0;
+    for k in 0..3 {
+        if (small >> k) & 1 == 1 {
+            sum ^= shifted;
+        }
+        shifted <<= 1;
+        if shifted & 0x100 != 0 {
+            shifted ^= 0x14D;
+        }
+    }
+    sum as u8
+}
+
+/// Section 3.3: a single byte d in row i becomes d times column i of D in its own
+/// column, and zero in the others. D is written here as it is printed there.
+#[test]
+fn layers_ends_with_theta_on_every_single_bit() {
+    let rows = [[3, 2, 2], [4, 5, 4], [6, 6, 7]];
+    let printed = lines("layers");
+    let mut rest = printed[32 * 4..].iter();
+    let mut sum = vec![0; 12];
+    for d in [0x01, 0x02, 0x04, 0x08, 0x10, 0x20, 0x40, 0x80] {
+        for p in 0..12 {
+            let (i, first) = (p % 3, p - p % 3);
+            let input = format!("{}{:02x}{}", "00".repeat(p), d, "00".repeat(11 - p));
+            let mut output = vec![0; 12];
+            for (k, row) in rows.iter().enumerate() {
+                output[first + k] = product(d, row[i]);
+            }
+            let line = rest.next().expect("there are more lines");
+            assert_eq!(line[..2], ["theta", &input]);
+            assert_eq!((line.len(), line[2].len()), (3, 24));
+            assert_eq!(bytes(&line[2]), output);
+            for (total, byte) in sum.iter_mut().zip(bytes(&line[2])) {
+                *total ^= byte;
+            }
+        }
+    }
+    let line = rest.next().expect("there is one more line");
+    assert_eq!(line[..2], ["theta", &"ff".repeat(12)]);
+    assert_eq!((line.len(), line[2].len()), (3, 24));
+    assert_eq!(bytes(&line[2]), sum);
+    assert!(rest.next().is_none());
 }
 
 #[test]

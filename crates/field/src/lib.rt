@@ -1,10 +1,10 @@
-// Multiplication of a byte by the constants that the matrices of the cipher and of its key schedule need.
+// Multiplication of a byte by the constant that the key schedule's matrix needs.
 
 ghost use mathlib.Core.Path.{_≡_};
 ghost use Rattle.field.specs.Field.{times, cubeRoot};
 
 // Twice x: a shift, with the modulus taken away where a digit left the byte.
-pub fn twice(x: u8) -> u8
+fn twice(x: u8) -> u8
     ensures { λ r. ⌜ r ≡ times 2 x ⌝ }
 {
     (x << 1) ^ ((x >> 7) * 0x4D)

@@ -33,8 +33,44 @@ fn key_line(a: [[u8; 3]; 4], k: [[u8; 3]; 4]) {
 fn layer_lines(a: [[u8; 3]; 4], k: [[u8; 3]; 4]) {
     layer_line(b"gamma ", a, substitution::substitute(a));
     layer_line(b"pi ", a, permutation::permute(a));
-    layer_line(b"theta ", a, diffusion::diffuse(a));
+    theta_line(a);
     key_line(a, k);
+}
+
+fn theta_line(a: [[u8; 3]; 4]) {
+    layer_line(b"theta ", a, diffusion::diffuse(a));
+}
+
+// The diffusion of the states that have one byte d and else zeros, place by place.
+fn theta_of_one_byte(d: u8) {
+    let o: [u8; 3] = [0, 0, 0];
+    theta_line([[d, 0, 0], o, o, o]);
+    theta_line([[0, d, 0], o, o, o]);
+    theta_line([[0, 0, d], o, o, o]);
+    theta_line([o, [d, 0, 0], o, o]);
+    theta_line([o, [0, d, 0], o, o]);
+    theta_line([o, [0, 0, d], o, o]);
+    theta_line([o, o, [d, 0, 0], o]);
+    theta_line([o, o, [0, d, 0], o]);
+    theta_line([o, o, [0, 0, d], o]);
+    theta_line([o, o, o, [d, 0, 0]]);
+    theta_line([o, o, o, [0, d, 0]]);
+    theta_line([o, o, o, [0, 0, d]]);
+}
+
+// The diffusion of every state with a single binary digit: it keeps sums (`layers` `DiffusionIsLinear`), so these 96 determine it. And that of the
+// state with all digits, where one leaves each byte.
+fn theta_of_digits() {
+    theta_of_one_byte(1);
+    theta_of_one_byte(2);
+    theta_of_one_byte(4);
+    theta_of_one_byte(8);
+    theta_of_one_byte(16);
+    theta_of_one_byte(32);
+    theta_of_one_byte(64);
+    theta_of_one_byte(128);
+    let f: [u8; 3] = [255, 255, 255];
+    theta_line([f, f, f, f]);
 }
 
 // Draws a subkey, and prints the lines of the state a and that subkey. The answer is the generator's number after it.
@@ -76,4 +112,5 @@ fn main() {
         x = draw_both(x);
         i += 1;
     }
+    theta_of_digits();
 }

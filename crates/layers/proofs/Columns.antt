@@ -1,5 +1,5 @@
 -- Maps of a column's three bytes that keep sums: two that agree at the powers of two in each place agree at all bytes. So the
--- matrix times itself, and what the code makes of a column, are compared with the definition by one computed test.
+-- matrix times itself, and a column's rows made by doublings of its sum, are compared with the definition by one computed test.
 use mathlib.Core.Path.{_≡_, refl, sym, ap, ap₂, _∙_}
 use mathlib.Core.Bool.{Bool, _&&_}
 use Prim.Native.Nat.{ℕ, zero, suc, _<_}
@@ -77,11 +77,11 @@ rowTimes-byte i x y z hx hy hz =
     byte (times (entry i 0) x) (times (entry i 1) y ⊕ times (entry i 2) z) (times-byte (entry i 0) x (entry-byte i 0) hx)
     (byte (times (entry i 1) y) (times (entry i 2) z) (times-byte (entry i 1) y (entry-byte i 1) hy) (times-byte (entry i 2) z (entry-byte i 2) hz))
 
--- ---- what the code makes of a column, row by row
-abbrev sum : ℕ → ℕ → ℕ → ℕ
+-- ---- a column's rows by doublings of its sum
+abbrev pub sum : ℕ → ℕ → ℕ → ℕ
 sum x y z = bitXor (bitXor x y) z
 
-abbrev made : ℕ → ℕ → ℕ → ℕ → ℕ
+abbrev pub made : ℕ → ℕ → ℕ → ℕ → ℕ
 made zero x y z = bitXor x (times 2 (sum x y z))
 made (suc zero) x y z = bitXor y (times 2 (times 2 (sum x y z)))
 made (suc (suc i)) x y z = bitXor z (bitXor (times 2 (sum x y z)) (times 2 (times 2 (sum x y z))))

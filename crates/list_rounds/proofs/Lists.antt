@@ -1,4 +1,4 @@
--- Lent lists: their lengths, and the rounds one subkey after the other.
+-- Lent lists: their lengths, and the rounds one subkey after the other and layer by layer.
 use mathlib.Core.Path.{_≡_, refl, sym, ap, ap₂, _∙_}
 use mathlib.Core.Bool.{Bool, true, _&&_}
 use mathlib.Core.List.{List, [], _∷_}
@@ -10,7 +10,7 @@ use lib.Seq.{drop-cons, drop-length}
 use borrow.Author.Tests.{leb-true, le-leb, eqb-true, eq-eqb}
 use Rattle.basics.proofs.Tests.{and-first, and-second}
 use Rattle.layers.specs.State.{State}
-use Rattle.layers.specs.Layers.{added}
+use Rattle.layers.specs.Layers.{substituted, permuted, diffused, added}
 use Rattle.rounds.specs.Rounds.{round, lastRound, rounds, enciphered}
 use Rattle.list_rounds.specs.ListRounds.{listLength}
 
@@ -55,3 +55,16 @@ pub whitened : (ks : List State) (a : State) → 0 < length ks → enciphered ks
 unfolding enciphered
 whitened [] a h = let z : ⊥ = omega arith in absurd z
 whitened (k ∷ ks) a h = refl
+
+-- ---- the layers one after the other are a round
+module _ {s p : State} (a : State) (is-s : s ≡ substituted a) (is-p : p ≡ permuted s) where
+  abbrev begun : p ≡ permuted (substituted a)
+  begun = is-p ∙ ap permuted is-s
+
+  pub round-made : {d x : State} (k : State) → d ≡ diffused p → x ≡ added k d → x ≡ round k a
+  unfolding round
+  round-made k is-d is-x = is-x ∙ ap (added k) (is-d ∙ ap diffused begun)
+
+  pub last-made : {x : State} (k : State) → x ≡ added k p → x ≡ lastRound k a
+  unfolding lastRound
+  last-made k is-x = is-x ∙ ap (added k) begun

@@ -8,6 +8,7 @@ ghost use Rattle.block_bytes.specs.Blocks.{listStates};
 ghost use Rattle.list_rounds.specs.ListRounds.{listLength};
 use basics::both;
 use blocks::state_of;
+use key_addition::add_key;
 
 pub fn is_list_length(n: usize) -> bool
     ensures { λ r. ⌜ r ≡ listLength n ⌝ }
@@ -15,21 +16,26 @@ pub fn is_list_length(n: usize) -> bool
     both(132 <= n, both(n <= 288, n % 12 == 0))
 }
 
-// The rounds under all subkeys of a list.
+// The rounds under all subkeys of a list: subkey 0 is added first. Every round substitutes and permutes, and all but the last diffuse. One loop has them
+// all, and a subkey is read after the S-boxes of its round; both make it fast (DECISIONS 54).
 pub fn encipher_state(list: &[u8], a: [[u8; 3]; 4]) -> [[u8; 3]; 4]
     requires { ⌜ listLength (length (now list)) ≡ true ⌝ }
     ensures { λ r. ⌜ r ≡ enciphered (listStates (now (list .entry))) a ⌝ }
 {
     let n = list.len() / 12;
-    let mut state = key_addition::add_key(state_of(&list[..12]), a);
+    let mut state = add_key(state_of(&list[..12]), a);
     let mut r: usize = 1;
-    while r + 1 < n {
+    loop {
+        let substituted = substitution::substitute(state);
+        let permuted = permutation::permute(substituted);
         let at = 12 * r;
         let k = state_of(&list[at..at + 12]);
-        let next = rounds::middle_round(k, state);
-        state = next;
         r += 1;
+        if r == n {
+            return add_key(k, permuted);
+        }
+        let diffused = diffusion::diffuse(permuted);
+        let next = add_key(k, diffused);
+        state = next;
     }
-    let at = 12 * r;
-    rounds::last_round(state_of(&list[at..at + 12]), state)
 }

@@ -1,8 +1,9 @@
 -- Numbers read from the bytes that they were written as, and bytes from the numbers that they are.
 use mathlib.Core.Path.{_≡_, ap₂, _∙_}
+use mathlib.Core.List.{[], _∷_}
 use Prim.Native.Nat.{ℕ, _+_, _*_, _/_, _%_, _<_}
 use native.Mathlib.Omega.{arith}
-use Rattle.numbers.specs.Numbers.{twoFrom, fourFrom}
+use Rattle.numbers.specs.Numbers.{twoFrom, fourFrom, fourBytes}
 
 -- ---- a number from its bytes
 pub two-again : (n : ℕ) → n < 65536 → twoFrom (n / 256 % 256) (n % 256) ≡ n
@@ -49,3 +50,6 @@ four₂ a b c d hc hd = omega arith
 
 pub four₃ : (a b c d : ℕ) → d < 256 → fourFrom a b c d % 256 ≡ d
 four₃ a b c d hd = omega arith
+
+pub bytes-again : (a b c d : ℕ) → a < 256 → b < 256 → c < 256 → d < 256 → fourBytes (fourFrom a b c d) ≡ a ∷ b ∷ c ∷ d ∷ []
+bytes-again a b c d ha hb hc hd k = four₀ a b c d ha hb hc hd k ∷ four₁ a b c d ha hb hc hd k ∷ four₂ a b c d hc hd k ∷ four₃ a b c d hd k ∷ []

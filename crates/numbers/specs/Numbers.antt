@@ -1,4 +1,4 @@
--- Numbers in bytes, big end first: document 01, "Roll and grant". For rolls and grants alike.
+-- Numbers in bytes, big end first: document 01, "Roll and grant". For rolls, grants and pages alike, and for the rows of a state.
 use mathlib.Core.List.{List, [], _∷_}
 use Prim.Native.Nat.{ℕ, _+_, _*_, _/_, _%_}
 

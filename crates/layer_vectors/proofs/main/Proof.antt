@@ -9,4 +9,4 @@ main-spec =
     tie.close (tie.spec (λ row₀ row. row ≤ 16) (λ row₀ row. 16 - row) (λ row x₀ i₀ x i. i ≤ 32)
     (λ row x₀ i₀ x i. 32 - i) (λ c. search needs) (λ c. search needs) (λ c. search needs) (λ c. search needs)
     (λ c. search needs) (λ c. search needs) (λ c. search needs) (λ c. search needs) (λ c. search needs) (λ c. search needs)
-    (λ c. search needs) (λ c. search needs) (λ c. search needs))
+    (λ c. search needs) (λ c. search needs) (λ c. search needs) (λ c. search needs))

@@ -12,7 +12,7 @@ use Rattle.layers.specs.Layers.{added}
 use Rattle.rounds.specs.Rounds.{round, lastRound, rounds}
 use Rattle.block_bytes.specs.Blocks.{listStates}
 use Rattle.block_bytes.proofs.Lists.{length-states, state-at, block-read}
-use Rattle.list_rounds.proofs.Lists.{Whole, whole, round-on, round-last, whitened}
+use Rattle.list_rounds.proofs.Lists.{Whole, whole, round-on, round-last, whitened, round-made, last-made}
 use borrow.Author.Needs.{needs}
 use Rattle.list_rounds.proofs.encipher_state.Statement.{statement}
 use Rattle.list_rounds.proofs.encipher_state.Tie as tie
@@ -45,7 +45,9 @@ loop-holds c = ((omega arith, omega (arith, accepted (c .before .before .before 
 
 loop-again : tie.Need-loop-again Inv-loop μ-loop
 loop-again c =
-    let l = c .before .before .before .before in
+    let key = c .before .before .before in
+    let p = key .before .before in
+    let l = p .before .before in
     let list = now (start l .args .list) in
     let ks = listStates list in
     let r = l .loop .r in
@@ -54,7 +56,8 @@ loop-again c =
       (
         refl,
         ap (rounds (drop (r + 1) ks))
-            (c .middle-round .ensures ∙ ap (λ (k : State). round k state) (c .before .state-of2 .ensures ∙ block-read list _ r (omega arith) refl))
+            (round-made state (p .before .substitute .ensures) (p .permute .ensures) _ (c .before .diffuse .ensures) (c .add-key3 .ensures)
+            ∙ ap (λ (k : State). round k state) (key .state-of2 .ensures ∙ block-read list _ r (omega arith) refl))
             ∙ ap (λ (m : ℕ). rounds (drop m ks) (round (getD ks r []) state)) (add-one r)
             ∙ sym (round-on ks r state (omega (arith, length-states list)))
             ∙ l .loop .inv .1 .1,
@@ -63,15 +66,17 @@ loop-again c =
 
 returns : tie.Need-returns Inv-loop μ-loop
 returns c =
-    let l = c .before .before .before .before in
+    let key = c .before .before in
+    let p = key .before .before in
+    let l = p .before .before in
     let list = now (start l .args .list) in
     let a = start l .args .a in
     let ks = listStates list in
     let r = l .loop .r in
     let state = l .loop .state in
     let w = accepted (start l) in
-    c .last-round .ensures
-    ∙ ap (λ (k : State). lastRound k state) (c .before .state-of3 .ensures ∙ block-read list _ r (omega arith) refl)
+    last-made state (p .before .substitute .ensures) (p .permute .ensures) _ (c .add-key2 .ensures)
+    ∙ ap (λ (k : State). lastRound k state) (key .state-of2 .ensures ∙ block-read list _ r (omega arith) refl)
     ∙ sym (round-last ks r state (omega (arith, length-states list)))
     ∙ l .loop .inv .1 .1
     ∙ ap (rounds (drop 1 ks)) (l .before .add-key .ensures
@@ -81,7 +86,6 @@ returns c =
 pub encipher-state-spec : {M : Type 1} → statement M
 encipher-state-spec =
     tie.close (tie.spec Inv-loop μ-loop slice-aggregate-state-of state-of-requires (λ c κs. search needs) loop-holds
-    (λ c. search needs) (λ c. search needs) (λ c. search needs) (λ c. search needs) (λ c. search needs) (λ c. search needs)
-    (λ c κs. search needs) (λ c κs. search needs) (λ c. search needs) (λ c. search needs) loop-again (λ c. search needs)
-    (λ c. search needs) (λ c. search needs) (λ c. search needs) (λ c. search needs) (λ c κs. search needs)
-    (λ c κs. search needs) returns)
+    (λ c κs. search needs) (λ c κs. search needs) (λ c. search needs) (λ c. search needs) (λ c. search needs) (λ c. search needs)
+    (λ c. search needs) (λ c κs. search needs) (λ c. search needs) (λ c κs. search needs) returns (λ c κs. search needs)
+    (λ c κs. search needs) (λ c. search needs) loop-again)

@@ -1,0 +1,3 @@
+pub mod Lanes
+pub mod Doubling
+pub mod Claims
