@@ -58,9 +58,9 @@ staying-is b h =
     ∙ ap (λ (n : ℕ). n * 2) (xor-bytes b (λ j. digit (b j) * 128) h (λ j. digit-128 (b j) (h j)))
     ∙ two-times (λ j. bitXor (b j) (digit (b j) * 128))
 
-bringing-is : (b : ℕ → ℕ) → Bytes b → bitAnd (leaving (word b) - leaving (word b) / 128) 0x4D4D4D4D ≡ word (λ j. brought (b j))
+bringing-is : (b : ℕ → ℕ) → Bytes b → bitAnd (leaving (word b) - leaving (word b) / 2 ^ 7) 0x4D4D4D4D ≡ word (λ j. brought (b j))
 bringing-is b h =
-    ap (λ (n : ℕ). bitAnd (n - n / 128) 0x4D4D4D4D) (leaving-is b h)
+    ap (λ (n : ℕ). bitAnd (n - n / 2 ^ 7) 0x4D4D4D4D) (leaving-is b h)
     ∙ ap (λ (n : ℕ). bitAnd n 0x4D4D4D4D) (less-part (λ j. digit (b j)))
     ∙ and-bytes (λ j. digit (b j) * 127) (λ j. 0x4D) (λ j. digit-127 (b j) (h j)) (λ j. lit< tt)
 

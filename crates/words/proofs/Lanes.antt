@@ -30,8 +30,8 @@ Blockwise op = (k a b r s : ℕ) → r < 2 ^ k → s < 2 ^ k → op (a * 2 ^ k +
 
 lanewise : (op : ℕ → ℕ → ℕ) → Blockwise op → (b c : ℕ → ℕ) → Bytes b → Bytes c → op (word b) (word c) ≡ word (λ j. op (b j) (c j))
 lanewise op law b c hb hc =
-    let one : (x y : ℕ) (j : ℕ) → op (x * 2 ^ 8 + b j) (y * 2 ^ 8 + c j) ≡ op x y * 2 ^ 8 + op (b j) (c j) = λ x y j. law 8 x y (b j) (c j) (hb j) (hc j) in
-    let more : (x y z : ℕ) (j : ℕ) → op x y ≡ z → op (x * 2 ^ 8 + b j) (y * 2 ^ 8 + c j) ≡ z * 2 ^ 8 + op (b j) (c j)
+    let one : (x y j : ℕ) → op (x * 2 ^ 8 + b j) (y * 2 ^ 8 + c j) ≡ op x y * 2 ^ 8 + op (b j) (c j) = λ x y j. law 8 x y (b j) (c j) (hb j) (hc j) in
+    let more : (x y z j : ℕ) → op x y ≡ z → op (x * 2 ^ 8 + b j) (y * 2 ^ 8 + c j) ≡ z * 2 ^ 8 + op (b j) (c j)
     = λ x y z j e. one x y j ∙ ap (λ (n : ℕ). n * 2 ^ 8 + op (b j) (c j)) e in
     ap₂ op (as-ladder (b 0) (b 1) (b 2) (b 3)) (as-ladder (c 0) (c 1) (c 2) (c 3))
     ∙ more _ _ _ 3 (more _ _ _ 2 (one (b 0) (c 0) 1))

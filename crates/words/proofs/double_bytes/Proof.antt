@@ -12,7 +12,7 @@ returns : tie.Need-returns
 returns c =
     let w = c .args .w in
     let h : w < 2 ^ 32 = search needs in
-    ap (λ (n : ℕ). bitXor n (bitAnd (leaving w - leaving w / 128) 0x4D4D4D4D)) (kept w h) ∙ doubles w h
+    ap (λ (n : ℕ). bitXor n (bitAnd (leaving w - leaving w / 2 ^ 7) 0x4D4D4D4D)) (kept w h) ∙ doubles w h
 
 pub double-bytes-spec : {M : Type 1} → statement M
 double-bytes-spec = tie.close (tie.spec (λ c. search needs) returns)
