@@ -7,7 +7,7 @@
 # make hosts  the static library and the programs over it, built and run
 # make bench  times, side by side with plain C, the independent program and other ciphers; no test
 # make stack  how much stack the calls on pages take, painted; no test
-# make instructions    how many instructions the engine, a list and the calls on pages take, and the diffusion on small processors; no test
+# make instructions    how many instructions the engine, a list, a walk, a stage and the calls on pages take, and the diffusion on small processors; no test
 
 .PHONY: run library install test checks reading vectors reference hosts bench stack instructions
 
@@ -63,8 +63,8 @@ stack: library
 	gcc -O2 -Iinclude bench/stack.c target/staticlib/libcapi.a -o target/stack
 	target/stack
 
-# The instructions of the engine, of preparing a list and of the calls on pages, of the library or of the archive that is named; and those of the
-# diffusion on small processors.
+# The instructions of the engine, of preparing a list, of a walk, of a stage and of the calls on pages, of the library or of the archive that is
+# named; and those of the diffusion on small processors.
 instructions: $(if $(GORDZILA_ARCHIVE),,library)
 	bench/count-instructions
 	bench/count-diffusion

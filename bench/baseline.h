@@ -4,8 +4,9 @@
  * reason for which a call refuses; a check that opens gives 1,000 times the
  * right asked for plus the contractor. Of a queue, each grant has a byte: 0 if it
  * opens, or the number for which a check of it refuses. A page that opens gives
- * the numbers of its header below the highest of 64 bits. A call that refuses
- * leaves the output as it was.
+ * the numbers of its header below the highest of 64 bits. A walk gives its steps,
+ * plus 1,000 if they went forward and 2,000 if back. A call that refuses leaves
+ * the output, or the holder, as it was.
  *
  * Each C file is compiled once for every compiler and set of flags, and gives
  * out one struct baseline, under the name that -DBASELINE=... chooses.
@@ -31,7 +32,9 @@ enum {
     CHECKED = BLOCK + PAYLOAD,
     CHECK = 8,
     PAGE = CHECKED + CHECK,
-    SCRATCH = 2 * MOST_LIST
+    SCRATCH = 2 * MOST_LIST,
+    STAGE = ROWS * MOST_KEY_COLUMNS,
+    HOLDER = 2 + STAGE
 };
 
 enum answer {
@@ -40,7 +43,7 @@ enum answer {
     ROUND_COUNT = 2,
     INPUT_LENGTH = 3,
     OUTPUT_TOO_SHORT = 4,
-    LIST_LENGTH = 5,
+    STAGE_OR_LIST = 5,
     RIGHT = 7,
     NOT_A_GRANT = 8,
     OTHER_BLOCK = 9,
@@ -49,12 +52,18 @@ enum answer {
     PAYLOAD_TOO_LONG = 12,
     OTHER_CHECK = 13,
     NOT_IN_STANDING = 20,
-    OTHER_COUNT = 23
+    OTHER_COUNT = 23,
+    BROKEN_HOLDER = 24,
+    WALKED_FORWARD = 1000,
+    WALKED_BACK = 2000
 };
 
 enum right { READING = 1, OVERWRITING = 2 };
 
 enum direction { ENCIPHERING, DECIPHERING };
+
+/* The ways from a key stage to another. */
+enum way { FORWARD, BACK };
 
 /* One block of 12 bytes, with key set-up. */
 typedef uint32_t cipher_call(const uint8_t *key, size_t key_len,
@@ -109,6 +118,16 @@ typedef uint64_t open_call(const uint8_t *first_key, size_t first_key_len,
                            uint8_t *scratch, size_t scratch_len,
                            uint8_t *out, size_t out_len);
 
+/*
+ * A key holder, walked to stage n the shorter way. Its 26 bytes are the key's
+ * length, the stage's number, and the stage with zeros past the key's length.
+ */
+typedef uint32_t walk_call(uint8_t *holder, size_t holder_len, uint32_t n);
+
+/* Stage n straight from the key: 24 bytes, with zeros past the key's length. */
+typedef uint32_t stage_call(const uint8_t *key, size_t key_len, uint32_t n,
+                            uint8_t *out, size_t out_len);
+
 struct baseline {
     cipher_call *encipher;
     cipher_call *decipher;
@@ -119,6 +138,8 @@ struct baseline {
     queue_call *check_queue;
     seal_call *seal_page;
     open_call *open_page;
+    walk_call *holder_walk;
+    stage_call *stage;
 };
 
 extern const struct baseline BASELINE;

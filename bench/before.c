@@ -14,6 +14,8 @@ check_call before_gordzila_check;
 queue_call before_gordzila_check_queue;
 seal_call before_gordzila_seal_page;
 open_call before_gordzila_open_page;
+walk_call before_gordzila_holder_walk;
+stage_call before_gordzila_stage;
 
 const struct baseline BASELINE = {
     .encipher = before_gordzila_encipher,
@@ -24,5 +26,7 @@ const struct baseline BASELINE = {
     .check = before_gordzila_check,
     .check_queue = before_gordzila_check_queue,
     .seal_page = before_gordzila_seal_page,
-    .open_page = before_gordzila_open_page
+    .open_page = before_gordzila_open_page,
+    .holder_walk = before_gordzila_holder_walk,
+    .stage = before_gordzila_stage
 };

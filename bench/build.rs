@@ -30,11 +30,12 @@ const WORDS: &str = "-DWORDS";
 const STRICT: [&str; 5] = ["-std=c11", "-Wall", "-Wextra", "-Wpedantic", "-Werror"];
 
 /// The C files, and what they include.
-const SOURCES: [&str; 8] = [
+const SOURCES: [&str; 9] = [
     "baseline.h",
     "before.c",
     "build.rs",
     "calls.h",
+    "closing.h",
     "others.c",
     "others.h",
     "plain.c",

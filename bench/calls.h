@@ -4,7 +4,9 @@
  *
  *   fill_list  the subkeys of a key, from the front or, for deciphering, from the
  *              back and diffused but for the two ends;
- *   run_list   the engine: one block under a list of rounds + 1 subkeys.
+ *   run_list   the engine: one block under a list of rounds + 1 subkeys;
+ *   walk_stage a stage of a key, in 24 bytes with zeros past the key's length,
+ *              walked so many steps either way, in place.
  */
 #include "baseline.h"
 
@@ -45,6 +47,11 @@ static uint32_t check_block(size_t block_len, size_t out_len)
     if (out_len < BLOCK)
         return OUTPUT_TOO_SHORT;
     return DONE;
+}
+
+static bool is_key_length(size_t n)
+{
+    return n == 12 || n == 18 || n == 24;
 }
 
 static bool is_list_length(size_t n)
@@ -132,7 +139,7 @@ static uint32_t run(const uint8_t *list, size_t list_len,
     uint32_t refusal;
 
     if (!is_list_length(list_len))
-        return LIST_LENGTH;
+        return STAGE_OR_LIST;
     refusal = check_block(block_len, out_len);
     if (refusal != DONE)
         return refusal;
@@ -404,6 +411,60 @@ static uint64_t open_page(const uint8_t *first_key, size_t first_key_len,
            | (uint64_t)number(page + 4, 2) << 32 | number(page, 4);
 }
 
+/*
+ * Key stages. A holder that the host keeps has 26 bytes: the key's length, which is
+ * the number of stages too, the number of the stage that it is at, and the stage,
+ * with zeros past the key's length.
+ */
+
+static bool is_whole(const uint8_t *holder, size_t holder_len)
+{
+    uint8_t rest = 0;
+
+    if (holder_len != HOLDER || !is_key_length(holder[0])
+        || holder[1] >= holder[0])
+        return false;
+    for (size_t i = 2 + (size_t)holder[0]; i < HOLDER; i++)
+        rest |= holder[i];
+    return rest == 0;
+}
+
+/* The shorter way around, and forward where both are as long. */
+static uint32_t holder_walk(uint8_t *holder, size_t holder_len, uint32_t n)
+{
+    uint32_t turn, s, ahead;
+
+    if (!is_whole(holder, holder_len))
+        return BROKEN_HOLDER;
+    turn = holder[0];
+    s = holder[1];
+    if (n >= turn)
+        return STAGE_OR_LIST;
+    holder[1] = (uint8_t)n;
+    ahead = n >= s ? n - s : n + turn - s;
+    if (ahead <= turn / 2) {
+        walk_stage(FORWARD, holder + 2, turn, s, ahead);
+        return WALKED_FORWARD + ahead;
+    }
+    walk_stage(BACK, holder + 2, turn, s, turn - ahead);
+    return WALKED_BACK + turn - ahead;
+}
+
+static uint32_t key_stage(const uint8_t *key, size_t key_len, uint32_t n,
+                          uint8_t *out, size_t out_len)
+{
+    if (!is_key_length(key_len))
+        return KEY_LENGTH;
+    if (n >= key_len)
+        return STAGE_OR_LIST;
+    if (out_len < STAGE)
+        return OUTPUT_TOO_SHORT;
+    memcpy(out, key, key_len);
+    memset(out + key_len, 0, STAGE - key_len);
+    walk_stage(FORWARD, out, key_len, 0, n);
+    return DONE;
+}
+
 const struct baseline BASELINE = {
     .encipher = encipher,
     .decipher = decipher,
@@ -413,5 +474,7 @@ const struct baseline BASELINE = {
     .check = check,
     .check_queue = check_queue,
     .seal_page = seal_page,
-    .open_page = open_page
+    .open_page = open_page,
+    .holder_walk = holder_walk,
+    .stage = key_stage
 };

@@ -5,9 +5,9 @@
  *     instructions OPERATION CALLS KEY_BYTES
  *
  * An operation has the name of its call without gordzila_, and is one of those below. A key has 12 bytes, and is used with 10 rounds, or
- * 24, with 23 rounds. A page has a payload of 492 bytes. Each operation is done once before, whichever is asked for, so that memcpy and
- * memset are bound already, and so two runs with other numbers of calls, of as many digits, differ in those calls and their loop alone. A
- * call that refuses ends the program.
+ * 24, with 23 rounds. A page has a payload of 492 bytes, a walk goes half a turn, and the stage is the last. Each operation is done once
+ * before, whichever is asked for, so that memcpy and memset are bound already, and so two runs with other numbers of calls, of as many
+ * digits, differ in those calls and their loop alone. A call that refuses ends the program.
  */
 #include <stdio.h>
 #include <stdlib.h>
@@ -18,9 +18,9 @@
 struct size { size_t key_length; uint32_t rounds; };
 static const struct size sizes[] = {{12, 10}, {24, 23}};
 
-static uint8_t keys[2][24], list[288], other_list[288], block[12], next[12], payload[492], page[512], scratch[576], out[492];
+static uint8_t keys[2][24], list[288], other_list[288], block[12], next[12], payload[492], page[512], scratch[576], out[492], holder[26];
 
-/* Each makes a call, and says whether it did what it is for: it answers 0, or the page opens. */
+/* Each makes a call, and says whether it did what it is for: it answers 0, or the steps of the walk, or the page opens. */
 
 static int prepare_enciphering(struct size size) {
     return gordzila_prepare_enciphering(keys[0], size.key_length, size.rounds, list, sizeof list) == 0;
@@ -37,6 +37,21 @@ static int run(struct size size) {
     return answer == 0;
 }
 
+static int holder_make(struct size size) {
+    return gordzila_holder_make(keys[0], size.key_length, holder, sizeof holder) == 0;
+}
+
+/* Half a turn forward from where the holder is, so that every other walk goes over the seam. */
+static int holder_walk(struct size size) {
+    uint32_t half = (uint32_t)size.key_length / 2;
+    return gordzila_holder_walk(holder, sizeof holder, (holder[1] + half) % (2 * half)) == 1000 + half;
+}
+
+/* The last stage. */
+static int stage(struct size size) {
+    return gordzila_stage(keys[0], size.key_length, (uint32_t)size.key_length - 1, out, sizeof out) == 0;
+}
+
 static int seal_page(struct size size) {
     uint32_t answer = gordzila_seal_page(keys[0], size.key_length, keys[1], size.key_length, size.rounds, 300, 4,
                                          payload, sizeof payload, scratch, sizeof scratch, page, sizeof page);
@@ -49,10 +64,10 @@ static int open_page(struct size size) {
     return gordzila_page_opens(answer);
 }
 
-/* In this order each finds what it needs: the engine its list, and opening its page. */
+/* In this order each finds what it needs: the engine its list, a walk its holder, and opening its page. */
 static const struct operation { const char *name; int (*function)(struct size size); } operations[] = {
     {"prepare_enciphering", prepare_enciphering}, {"prepare_deciphering", prepare_deciphering}, {"run", run},
-    {"seal_page", seal_page}, {"open_page", open_page}};
+    {"holder_make", holder_make}, {"holder_walk", holder_walk}, {"stage", stage}, {"seal_page", seal_page}, {"open_page", open_page}};
 
 enum { SIZES = sizeof sizes / sizeof sizes[0], OPERATIONS = sizeof operations / sizeof operations[0] };
 

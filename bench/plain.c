@@ -4,6 +4,7 @@
  * columns in a word at a time, as the library does it.
  */
 #include "baseline.h"
+#include "closing.h"
 
 #include <string.h>
 
@@ -177,13 +178,37 @@ static void run_list(const uint8_t *list, uint32_t rounds,
     memcpy(out, a, BLOCK);
 }
 
-/* Key stage s of n columns from stage s - 1, in place. */
-static inline void next_stage(stage k, unsigned n, unsigned s)
+/* The steps of the key schedule, on a stage of n columns, in place. */
+
+static inline void add_constant(stage k, unsigned n, unsigned s)
+{
+    for (unsigned j = 0; j < n; j++)
+        k[j][0] ^= sbox((uint8_t)(n * (s - 1) + j));
+}
+
+/* Over all columns: past n of them a stage that is walked has zeros, and the sum too. */
+static inline void add_closing(stage k, unsigned n)
+{
+    const uint8_t *sum = closing_sum(n);
+
+    for (int j = 0; j < MOST_KEY_COLUMNS; j++)
+        for (int i = 0; i < ROWS; i++)
+            k[j][i] ^= sum[ROWS * j + i];
+}
+
+/* What a step between stage s and the one before it adds. */
+static inline void add_step_constant(stage k, unsigned n, unsigned s)
+{
+    if (s > 0)
+        add_constant(k, n, s);
+    else
+        add_closing(k, n);
+}
+
+static inline void linear_step(stage k, unsigned n)
 {
     stage next;
 
-    for (unsigned j = 0; j < n; j++)
-        k[j][0] ^= sbox((uint8_t)(n * (s - 1) + j));
     for (unsigned j = 0; j < n; j++) {
         uint8_t x = k[j][0];
         uint8_t y = k[j + 1 < n ? j + 1 : 0][1];
@@ -195,6 +220,64 @@ static inline void next_stage(stage k, unsigned n, unsigned s)
         next[j][2] = z ^ m;
     }
     memcpy(k, next, ROWS * n);
+}
+
+static inline void inverse_step(stage k, unsigned n)
+{
+    stage before;
+
+    for (unsigned j = 0; j < n; j++) {
+        uint8_t x = k[j][0], y = k[j][1], z = k[j][2];
+        uint8_t s = x ^ y ^ z;
+        uint8_t m = ctimes(s) ^ s;
+
+        before[j][0] = x ^ m;
+        before[j + 1 < n ? j + 1 : 0][1] = y ^ m;
+        before[j > 0 ? j - 1 : n - 1][2] = z ^ m;
+    }
+    memcpy(k, before, ROWS * n);
+}
+
+/* Key stage s from stage s - 1. */
+static inline void next_stage(stage k, unsigned n, unsigned s)
+{
+    add_constant(k, n, s);
+    linear_step(k, n);
+}
+
+/* From stage s to the one after or before it, around the turn of 3n; its number. */
+
+static inline unsigned step_forward(stage k, unsigned n, unsigned s)
+{
+    unsigned after = s + 1 < ROWS * n ? s + 1 : 0;
+
+    add_step_constant(k, n, after);
+    linear_step(k, n);
+    return after;
+}
+
+static inline unsigned step_back(stage k, unsigned n, unsigned s)
+{
+    inverse_step(k, n);
+    add_step_constant(k, n, s);
+    return s > 0 ? s - 1 : ROWS * n - 1;
+}
+
+/* Stage s of a key, in 24 bytes, walked so many steps where it stands. */
+static void walk_stage(enum way way, uint8_t bytes[STAGE], size_t key_len,
+                       unsigned s, unsigned steps)
+{
+    unsigned n = (unsigned)key_len / ROWS;
+    stage k;
+
+    memcpy(k, bytes, STAGE);
+    if (way == FORWARD)
+        for (; steps > 0; steps--)
+            s = step_forward(k, n, s);
+    else
+        for (; steps > 0; steps--)
+            s = step_back(k, n, s);
+    memcpy(bytes, k, STAGE);
 }
 
 /* A stage's subkey: its first four columns, with the S-box on row 0. */

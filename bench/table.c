@@ -1,12 +1,13 @@
 /*
  * Curupira in C with tables: the S-box as a table of 256 bytes, and for each row
  * a table of 256 columns that does the S-box and the diffusion in one look-up.
- * This is what a C programmer chooses who has five kilobytes to spare.
+ * This is what a C programmer chooses who has six kilobytes to spare.
  *
  * A column is a word, its row 0 in the lowest byte. The highest byte of a word
  * means nothing.
  */
 #include "baseline.h"
+#include "closing.h"
 
 typedef uint32_t column;
 
@@ -70,6 +71,9 @@ typedef uint32_t column;
 /* What a key stage adds to a column with this sum: c = x^4 + x^3 + x^2 times it. */
 #define MIX(b) ((X4(b) ^ X3(b) ^ X2(b)) * 0x010101)
 
+/* The same for the stage before: c + 1 times the sum. */
+#define UNMIX(b) ((X4(b) ^ X3(b) ^ X2(b) ^ (column)(b)) * 0x010101)
+
 /* The columns that a value of the S-box in row 0, 1 or 2 is diffused to. */
 #define COLUMN_0(s) (SPREAD(s) ^ PACK(s, 0, 0))
 #define COLUMN_1(s) (SPREAD(s) ^ PACK(0, s, 0))
@@ -83,6 +87,7 @@ static const column T1[256] = { SBOX(COLUMN_1) };
 static const column T2[256] = { SBOX(COLUMN_2) };
 static const column D[256] = { BYTES(SPREAD) };
 static const column C[256] = { BYTES(MIX) };
+static const column C1[256] = { BYTES(UNMIX) };
 
 static inline uint8_t row(column a, int i)
 {
@@ -98,6 +103,20 @@ static inline column word(const uint8_t *b)
 {
     return (column)b[0] | (column)b[1] << 8 | (column)b[2] << 16
            | (column)b[3] << 24;
+}
+
+/* A column of three bytes, where no byte after them may be read or written. */
+
+static inline column get_column(const uint8_t *b)
+{
+    return PACK(b[0], b[1], b[2]);
+}
+
+static inline void put_column(uint8_t *b, column a)
+{
+    b[0] = row(a, 0);
+    b[1] = row(a, 1);
+    b[2] = row(a, 2);
 }
 
 /* The columns of 12 bytes. No byte after them is read. */
@@ -158,14 +177,37 @@ static void run_list(const uint8_t *list, uint32_t rounds,
     store(out, b);
 }
 
-/* Key stage s of n columns from stage s - 1, in place. */
-static inline void next_stage(column k[MOST_KEY_COLUMNS], unsigned n,
-                              unsigned s)
+/* The steps of the key schedule, on a stage of n columns, in place. */
+
+static inline void add_constant(column k[MOST_KEY_COLUMNS], unsigned n,
+                                unsigned s)
+{
+    for (unsigned j = 0; j < n; j++)
+        k[j] ^= S[(uint8_t)(n * (s - 1) + j)];
+}
+
+static inline void add_closing(column k[MOST_KEY_COLUMNS], unsigned n)
+{
+    const uint8_t *closing = closing_sum(n);
+
+    for (unsigned j = 0; j < n; j++)
+        k[j] ^= get_column(closing + ROWS * j);
+}
+
+/* What a step between stage s and the one before it adds. */
+static inline void add_step_constant(column k[MOST_KEY_COLUMNS], unsigned n,
+                                     unsigned s)
+{
+    if (s > 0)
+        add_constant(k, n, s);
+    else
+        add_closing(k, n);
+}
+
+static inline void linear_step(column k[MOST_KEY_COLUMNS], unsigned n)
 {
     column next[MOST_KEY_COLUMNS];
 
-    for (unsigned j = 0; j < n; j++)
-        k[j] ^= S[(uint8_t)(n * (s - 1) + j)];
     for (unsigned j = 0; j < n; j++) {
         column a = (k[j] & 0x0000FF) | (k[j + 1 < n ? j + 1 : 0] & 0x00FF00)
                    | (k[j > 0 ? j - 1 : n - 1] & 0xFF0000);
@@ -174,6 +216,59 @@ static inline void next_stage(column k[MOST_KEY_COLUMNS], unsigned n,
     }
     for (unsigned j = 0; j < n; j++)
         k[j] = next[j];
+}
+
+static inline void inverse_step(column k[MOST_KEY_COLUMNS], unsigned n)
+{
+    column a[MOST_KEY_COLUMNS];
+
+    for (unsigned j = 0; j < n; j++)
+        a[j] = k[j] ^ C1[sum(k[j])];
+    for (unsigned j = 0; j < n; j++)
+        k[j] = (a[j] & 0x0000FF) | (a[j > 0 ? j - 1 : n - 1] & 0x00FF00)
+               | (a[j + 1 < n ? j + 1 : 0] & 0xFF0000);
+}
+
+/* Key stage s from stage s - 1. */
+static inline void next_stage(column k[MOST_KEY_COLUMNS], unsigned n,
+                              unsigned s)
+{
+    add_constant(k, n, s);
+    linear_step(k, n);
+}
+
+/* From stage s to the one after or before it, around the turn of 3n; its number. */
+
+static inline unsigned step_forward(column k[MOST_KEY_COLUMNS], unsigned n,
+                                    unsigned s)
+{
+    unsigned after = s + 1 < ROWS * n ? s + 1 : 0;
+
+    add_step_constant(k, n, after);
+    linear_step(k, n);
+    return after;
+}
+
+static inline unsigned step_back(column k[MOST_KEY_COLUMNS], unsigned n,
+                                 unsigned s)
+{
+    inverse_step(k, n);
+    add_step_constant(k, n, s);
+    return s > 0 ? s - 1 : ROWS * n - 1;
+}
+
+static inline void load_stage(column k[MOST_KEY_COLUMNS], unsigned n,
+                              const uint8_t *bytes)
+{
+    for (unsigned j = 0; j < n; j++)
+        k[j] = get_column(bytes + ROWS * j);
+}
+
+static inline void store_stage(uint8_t *bytes, unsigned n,
+                               const column k[MOST_KEY_COLUMNS])
+{
+    for (unsigned j = 0; j < n; j++)
+        put_column(bytes + ROWS * j, k[j]);
 }
 
 /* A stage's subkey: its first four columns, with the S-box on row 0. */
@@ -195,8 +290,7 @@ static inline void fill(unsigned n, enum direction direction,
 {
     column k[MOST_KEY_COLUMNS], subkey[COLUMNS];
 
-    for (unsigned j = 0; j < n; j++)
-        k[j] = PACK(key[ROWS * j], key[ROWS * j + 1], key[ROWS * j + 2]);
+    load_stage(k, n, key);
     for (uint32_t s = 0; s <= rounds; s++) {
         uint32_t at = direction == ENCIPHERING ? s : rounds - s;
 
@@ -218,6 +312,36 @@ static void fill_list(enum direction direction, const uint8_t *key,
         fill(6, direction, key, rounds, out);
     else
         fill(8, direction, key, rounds, out);
+}
+
+/*
+ * Stage s of a key of n columns, walked so many steps where it stands; n is a
+ * constant where this is called.
+ */
+static inline void walk(unsigned n, enum way way, uint8_t *bytes, unsigned s,
+                        unsigned steps)
+{
+    column k[MOST_KEY_COLUMNS];
+
+    load_stage(k, n, bytes);
+    if (way == FORWARD)
+        for (; steps > 0; steps--)
+            s = step_forward(k, n, s);
+    else
+        for (; steps > 0; steps--)
+            s = step_back(k, n, s);
+    store_stage(bytes, n, k);
+}
+
+static void walk_stage(enum way way, uint8_t bytes[STAGE], size_t key_len,
+                       unsigned s, unsigned steps)
+{
+    if (key_len == 12)
+        walk(4, way, bytes, s, steps);
+    else if (key_len == 18)
+        walk(6, way, bytes, s, steps);
+    else
+        walk(8, way, bytes, s, steps);
 }
 
 #include "calls.h"

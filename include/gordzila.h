@@ -24,7 +24,7 @@
  *    them lent: rooms or threads that share a roll make their calls on it one after the other.
  *  - Their time depends on the key and the data: they are not made to resist an observer of time.
  *
- * Changes in 0.5.0, for hosts that were written for 0.4 (nothing changed for hosts in 0.5.1):
+ * Changes in 0.5.0, for hosts that were written for 0.4 (nothing changed for hosts in 0.5.1 and 0.5.2):
  *  - gordzila_seal_page and gordzila_open_page are new: they seal up to 492 bytes of a size block in a page of 512, and open it.
  *  - Reasons 11, 12 and 13 are new, and only these two calls give them. Reason 1 has their keys too, and 4 their scratch.
  *  - No other call changed, and no constant its name or number.

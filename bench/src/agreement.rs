@@ -4,6 +4,7 @@ mod checks;
 mod pages;
 mod queues;
 mod refusals;
+mod stages;
 
 use curupira_reference::cipher::{allowed_rounds, decrypt, decryption_keys, encrypt, encrypt_with};
 use curupira_reference::error::Error;
@@ -48,6 +49,7 @@ pub fn check() -> Result<(), String> {
     let (grants, opened) = checks::check(&mut generator)?;
     let (queues, queued, opening) = queues::check(&mut generator)?;
     let (sheets, opening_pages) = pages::check(&mut generator)?;
+    let (stages, walked) = stages::check(&mut generator)?;
     let ciphers = check_others(&mut generator)?;
     println!("agreement of the library and all C baselines on");
     print_tally("keys and blocks", &keys);
@@ -58,6 +60,8 @@ pub fn check() -> Result<(), String> {
     print_tally(&answered, &queues);
     let sealed = format!("calls on pages, in which {opening_pages} pages open");
     print_tally(&sealed, &sheets);
+    let stepped = format!("calls on key stages, in which {walked} holders are walked");
+    print_tally(&stepped, &stages);
     if ciphers > 0 {
         println!("each cipher of libtomcrypt undoes what it does, and passes its own test");
     }

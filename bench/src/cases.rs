@@ -5,6 +5,7 @@ use std::hint::black_box;
 use curupira_reference::cipher::{decrypt, decryption_keys, encrypt, encrypt_with};
 use curupira_reference::error::Error;
 use curupira_reference::generator::Generator;
+use curupira_reference::holder::{holder_bytes, walk_to};
 use curupira_reference::matrix::{Matrix, State};
 use curupira_reference::schedule::round_subkeys;
 
@@ -12,6 +13,7 @@ use crate::interface::{baselines, Interface, LIBRARY};
 use crate::others::{self, Other, SealedPage};
 use crate::page::{Page, PAGE_BYTES, PAYLOAD_BYTES, SCRATCH_BYTES};
 use crate::question::Question;
+use crate::walk::{Walk, STAGE_BYTES};
 
 const SEED: u64 = 2007;
 
@@ -53,10 +55,14 @@ pub enum Operation {
     SealEmpty,
     OpenFull,
     OpenEmpty,
+    /// A holder walked as far as there is in a direction, and the last stage of a key.
+    WalkForward,
+    WalkBack,
+    StageLast,
 }
 
 impl Operation {
-    pub const ALL: [Operation; 12] = [
+    pub const ALL: [Operation; 15] = [
         Operation::RunEnciphering,
         Operation::Encipher,
         Operation::RunDeciphering,
@@ -69,6 +75,18 @@ impl Operation {
         Operation::SealEmpty,
         Operation::OpenFull,
         Operation::OpenEmpty,
+        Operation::WalkForward,
+        Operation::WalkBack,
+        Operation::StageLast,
+    ];
+
+    /// The operations that are little else than steps of the key schedule.
+    pub const ON_STAGES: [Operation; 5] = [
+        Operation::WalkForward,
+        Operation::WalkBack,
+        Operation::StageLast,
+        Operation::PrepareEnciphering,
+        Operation::PrepareDeciphering,
     ];
 
     /// The operations on pages.
@@ -94,6 +112,9 @@ impl Operation {
             Operation::SealEmpty => ["seal", "0"],
             Operation::OpenFull => ["open", "492"],
             Operation::OpenEmpty => ["open", "0"],
+            Operation::WalkForward => ["walk", "forward"],
+            Operation::WalkBack => ["walk", "back"],
+            Operation::StageLast => ["stage", "last"],
         }
     }
 
@@ -251,6 +272,9 @@ fn c_batch(interface: Interface, operation: Operation, inputs: &Inputs) -> Batch
         Operation::SealEmpty => c_seal(interface, inputs.empty.clone()),
         Operation::OpenFull => c_open(interface, inputs.full.sealed()),
         Operation::OpenEmpty => c_open(interface, inputs.empty.sealed()),
+        Operation::WalkForward => c_walk(interface, Walk::forward(&key)),
+        Operation::WalkBack => c_walk(interface, Walk::back(&key)),
+        Operation::StageLast => c_stage(interface, key),
     }
 }
 
@@ -272,6 +296,18 @@ fn c_open(interface: Interface, page: Page) -> Batch {
         let (scratch, out) = (black_box(&mut scratch), black_box(&mut out));
         interface.open_page(black_box(&page), scratch, out)
     })
+}
+
+/// A holder that is walked from the same start each time.
+fn c_walk(interface: Interface, walk: Walk) -> Batch {
+    walk_batch(walk, move |holder, to| interface.holder_walk(holder, to))
+}
+
+/// The last stage, straight from the key.
+fn c_stage(interface: Interface, key: Vec<u8>) -> Batch {
+    let (last, mut out) = (key.len() as u32 - 1, [0; STAGE_BYTES]);
+    assert_eq!(interface.stage(&key, last, &mut out), 0);
+    repeat(move || interface.stage(black_box(&key), last, black_box(&mut out)))
 }
 
 /// The engine over a list, whichever direction it is for.
@@ -321,6 +357,9 @@ fn independent_batch(operation: Operation, inputs: &Inputs) -> Result<Option<Bat
         Operation::PrepareDeciphering => repeat(move || {
             round_subkeys(black_box(&key), rounds).and_then(|subkeys| decryption_keys(&subkeys))
         }),
+        Operation::WalkForward => independent_walk(Walk::forward(&key)),
+        Operation::WalkBack => independent_walk(Walk::back(&key)),
+        Operation::StageLast => repeat(move || holder_bytes(black_box(&key), key.len() - 1)),
         _ => return Ok(None),
     }))
 }
@@ -331,6 +370,11 @@ fn independent_run(subkeys: Vec<State>, block: &[u8]) -> Result<Batch, Error> {
     Ok(chain(state, move |state, out| {
         *out = encrypt_with(black_box(&subkeys), state).expect("the list is long enough");
     }))
+}
+
+/// The independent program's walk.
+fn independent_walk(walk: Walk) -> Batch {
+    walk_batch(walk, |holder, to| walk_to(to as usize, holder))
 }
 
 /// A cipher of libtomcrypt, if it is timed for this operation.
@@ -388,6 +432,20 @@ where
             std::mem::swap(&mut block, &mut out);
         }
         black_box(&block);
+    })
+}
+
+/// A batch in which a holder is walked from the same start each time. The copy of the
+/// start is timed with the walk, and is the same for all.
+fn walk_batch<F>(walk: Walk, mut call: F) -> Batch
+where
+    F: FnMut(&mut [u8], u32) -> u32 + 'static,
+{
+    let mut holder = walk.start;
+    assert_eq!(call(&mut holder, walk.to), walk.answer);
+    repeat(move || {
+        holder.copy_from_slice(black_box(&walk.start));
+        call(black_box(&mut holder), walk.to)
     })
 }
 

@@ -67,8 +67,13 @@ type OpenCall = unsafe extern "C" fn(
     usize,
 ) -> u64;
 
-/// The nine calls, in the order of `struct baseline` in baseline.h. Each answers 0,
-/// or the number of a refusal, or, for a check or a page that opens, 1000 or more.
+type WalkCall = unsafe extern "C" fn(*mut u8, usize, u32) -> u32;
+
+type StageCall = unsafe extern "C" fn(*const u8, usize, u32, *mut u8, usize) -> u32;
+
+/// The eleven calls, in the order of `struct baseline` in baseline.h. Each answers 0,
+/// or the number of a refusal, or, for a walk and for a check or a page that opens,
+/// 1000 or more.
 #[repr(C)]
 #[derive(Clone, Copy)]
 pub struct Interface {
@@ -81,6 +86,8 @@ pub struct Interface {
     check_queue: QueueCall,
     seal_page: SealCall,
     open_page: OpenCall,
+    holder_walk: WalkCall,
+    stage: StageCall,
 }
 
 extern "C" {
@@ -176,6 +183,14 @@ extern "C" {
         out: *mut u8,
         out_length: usize,
     ) -> u64;
+    fn gordzila_holder_walk(holder: *mut u8, holder_length: usize, n: u32) -> u32;
+    fn gordzila_stage(
+        key: *const u8,
+        key_length: usize,
+        n: u32,
+        out: *mut u8,
+        out_length: usize,
+    ) -> u32;
 }
 
 pub const LIBRARY: Interface = Interface {
@@ -188,6 +203,8 @@ pub const LIBRARY: Interface = Interface {
     check_queue: gordzila_check_queue,
     seal_page: gordzila_seal_page,
     open_page: gordzila_open_page,
+    holder_walk: gordzila_holder_walk,
+    stage: gordzila_stage,
 };
 
 // What the C files give out, once for every compiler and set of flags, and before.c
@@ -206,8 +223,9 @@ extern "C" {
     static table_scalar: Interface;
 }
 
-/// The name of the baseline that the targets are set against.
+/// The names of the baselines that targets are set against. The first is always there.
 pub const PLAIN: &str = "plain C";
+pub const BEFORE: &str = "library before";
 
 /// A C file under one compiler and one set of flags, or an earlier version of the
 /// library.
@@ -227,7 +245,7 @@ pub fn baselines() -> Vec<Baseline> {
     unsafe {
         vec![
             #[cfg(bench_before)]
-            one("library before", &library_before),
+            one(BEFORE, &library_before),
             one(PLAIN, &plain_c),
             one("plain C, no SLP", &plain_scalar),
             one("plain C, words", &plain_words),
@@ -362,6 +380,18 @@ impl Interface {
                 out.len(),
             )
         }
+    }
+
+    /// A walk of a holder to stage n.
+    #[inline(always)]
+    pub fn holder_walk(&self, holder: &mut [u8], n: u32) -> u32 {
+        unsafe { (self.holder_walk)(holder.as_mut_ptr(), holder.len(), n) }
+    }
+
+    /// Stage n, straight from the key.
+    #[inline(always)]
+    pub fn stage(&self, key: &[u8], n: u32, out: &mut [u8]) -> u32 {
+        unsafe { (self.stage)(key.as_ptr(), key.len(), n, out.as_mut_ptr(), out.len()) }
     }
 }
 

@@ -12,6 +12,7 @@ mod page;
 mod question;
 mod table;
 mod timing;
+mod walk;
 
 use std::env;
 use std::fs;

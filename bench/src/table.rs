@@ -2,7 +2,7 @@
 //! multiples of the others.
 
 use crate::cases::{contenders, Contender, Operation, Size, SINGLES, SIZES};
-use crate::interface::PLAIN;
+use crate::interface::{BEFORE, PLAIN};
 use crate::timing::{measure, Times};
 
 /// The width of the names of the rows.
@@ -33,6 +33,7 @@ pub fn print(samples: usize) {
         print_ratios("library's time / this time, least", &rows, |t| t.least);
         print_queue(&rows);
         print_pages(&rows);
+        print_stages(&rows);
     }
 }
 
@@ -120,6 +121,27 @@ fn print_pages(rows: &[Row]) {
                 &format!("  {}", row.name),
                 each.map(|time| format!("{time:.1}")),
             );
+        }
+    }
+}
+
+/// The same of what is little else than steps of the key schedule, and beside the library
+/// before, if there is one.
+fn print_stages(rows: &[Row]) {
+    for (name, whose) in [
+        (PLAIN, "plain C's"),
+        (BEFORE, "those of the library before"),
+    ] {
+        if rows.iter().all(|row| row.name != name) {
+            continue;
+        }
+        println!(
+            "the library's walk, stage and lists / {whose}, \
+             by medians and by least times, and the target"
+        );
+        for operation in Operation::ON_STAGES {
+            let title = operation.heading().join(", ");
+            print_target(&title, rows, operation, name, "1.0");
         }
     }
 }

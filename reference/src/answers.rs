@@ -13,6 +13,8 @@
 //!   6t - 1.
 //! - `closing L SUM`: what the 6t - 1 steps of the schedule make of the zero key of
 //!   L bytes.
+//! - `constant L s BYTES`: the constant of step s for keys of L bytes, for s = 0, 1,
+//!   6t - 1, 6t, 6t + 1 and 65.
 //! - `list KEY R LIST`, `turned KEY R TURNED`: the subkeys 0 to R, and the
 //!   decryption keys of Theorem 1.
 //! - `plain CONTRACTOR COUNT BLOCK RIGHT BYTES`: the plain bytes of a grant.
@@ -71,8 +73,8 @@ use crate::roll::{
     CONTRACTORS, OVERWRITING, READING,
 };
 use crate::routes::walk;
-use crate::schedule::{cipher_key, key_stage, round_subkeys, select};
-use crate::vectors::{add_line, hex, list_hex, matrix_hex, KEY_LENGTHS};
+use crate::schedule::{cipher_key, closing_sum, key_stage, round_subkeys, select};
+use crate::vectors::{add_constant_line, add_line, hex, list_hex, matrix_hex, KEY_LENGTHS};
 
 /// The key of 24 bytes. The others are its first 12 and its first 18.
 pub(crate) const KEY: [u8; 24] = [
@@ -204,6 +206,7 @@ pub fn answers_text() -> Result<String, Error> {
     add_closing_line::<4>(&mut text);
     add_closing_line::<6>(&mut text);
     add_closing_line::<8>(&mut text);
+    add_constant_lines(&mut text)?;
     add_list_lines(&mut text)?;
     add_plain_lines(&mut text);
     add_covers_lines(&mut text);
@@ -273,12 +276,22 @@ fn add_stage_lines<const N: usize>(text: &mut String) -> Result<(), Error> {
     Ok(())
 }
 
-/// The line for the closing sum for keys of N columns: stage 6t - 1 = 3N - 1 of the
-/// zero key. The last stage of any key plus this sum is taken back to the key by
-/// omega (section 3.7; README.md says what is wrong in print there).
+/// The line for the closing sum for keys of N columns, which have 6t = 3N bytes.
 fn add_closing_line<const N: usize>(text: &mut String) {
-    let sum = key_stage(&Matrix::<N>::zero(), 3 * N - 1);
-    add_line(text, &["closing", &(3 * N).to_string(), &matrix_hex(&sum)]);
+    let sum = matrix_hex(&closing_sum::<N>());
+    add_line(text, &["closing", &(3 * N).to_string(), &sum]);
+}
+
+/// The lines for the constants of the first step and of the last two, and for numbers
+/// outside 1 to 6t. For keys of any length, 65 is a number for which the formula of
+/// section 3.6 would find nothing in the S-box.
+fn add_constant_lines(text: &mut String) -> Result<(), Error> {
+    for turn in KEY_LENGTHS {
+        for s in [0, 1, turn - 1, turn, turn + 1, 65] {
+            add_constant_line(text, turn, s)?;
+        }
+    }
+    Ok(())
 }
 
 /// The lines for the subkeys of the short key (section 3.8) and for the decryption

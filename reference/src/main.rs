@@ -12,7 +12,8 @@ use std::process::ExitCode;
 use curupira_reference::error::Error;
 use curupira_reference::{answers, grants, routes, vectors};
 
-const USAGE: &str = "usage: reference sbox|layers|rounds|blocks|stages|routes|grants|pages|answers";
+const USAGE: &str =
+    "usage: reference sbox|layers|rounds|blocks|stages|constants|routes|grants|pages|answers";
 
 /// Exit status for bad usage.
 const BAD_USAGE: u8 = 2;
@@ -41,6 +42,7 @@ fn subcommand(arguments: &[OsString]) -> Option<fn() -> Result<String, Error>> {
             "rounds" => Some(vectors::rounds_text),
             "blocks" => Some(vectors::blocks_text),
             "stages" => Some(vectors::stages_text),
+            "constants" => Some(vectors::constants_text),
             "routes" => Some(routes::routes_text),
             "grants" => Some(grants::grants_text),
             "pages" => Some(vectors::pages_text),

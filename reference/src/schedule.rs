@@ -7,6 +7,10 @@
 //! not lean on the paper's claims about the period of omega and the recovery of
 //! the key (section 3.7), so that these can be tested. The cipher does not need
 //! them.
+//!
+//! The closing sum and the constant for every step number stand last. The paper does
+//! not have the latter, and the steps of the schedule do not use it: psi_r adds q^(r),
+//! as it is defined, for r = 6t too.
 
 use crate::error::Error;
 use crate::layers::{inverse_sigma, sigma};
@@ -160,4 +164,39 @@ pub fn round_subkeys(user_key: &[u8], rounds: usize) -> Result<Vec<State>, Error
 /// key stage.
 fn subkeys_of<const N: usize>(key: &Matrix<N>, rounds: usize) -> Vec<State> {
     (0..=rounds).map(|r| select(&key_stage(key, r))).collect()
+}
+
+/// The closing sum: what the 6t - 1 = 3N - 1 steps of the schedule make of the zero
+/// key. The last stage of any key plus this sum is taken back to the key by omega
+/// (section 3.7; README.md says what is wrong in print there).
+pub fn closing_sum<const N: usize>() -> Matrix<N> {
+    key_stage(&Matrix::zero(), 3 * N - 1)
+}
+
+/// The constant of step s, for every number s. Step s takes the stage s - 1 plus this
+/// constant to the stage s modulo 6t by omega. It is q^(s) (section 3.6) for s from 1
+/// to 6t - 1 = 3N - 1, and the closing sum for s = 6t. A turn has no other steps; the
+/// constant for 0 and above 6t is zero.
+///
+/// Never panics: no index is reckoned from a number of 6t or more.
+pub fn step_constant<const N: usize>(s: usize) -> Matrix<N> {
+    let turn = 3 * N;
+    if s == 0 || s > turn {
+        Matrix::zero()
+    } else if s == turn {
+        closing_sum()
+    } else {
+        schedule_constant(s)
+    }
+}
+
+/// The bytes of the constant of step s, by columns, for keys of 12, 18 or 24 bytes.
+/// There are as many as the key has.
+pub fn step_constant_bytes(key_length: usize, s: usize) -> Result<Vec<u8>, Error> {
+    match key_length {
+        12 => Ok(step_constant::<4>(s).to_bytes()),
+        18 => Ok(step_constant::<6>(s).to_bytes()),
+        24 => Ok(step_constant::<8>(s).to_bytes()),
+        other => Err(Error::KeyLength(other)),
+    }
 }

@@ -23,6 +23,9 @@
 //!   key is all zero and draws nothing, and then it does this 3 times: draw KEY
 //!   (12, 18 or 24 bytes). For every key it prints the lines r = 0 to 6t - 1
 //!   before the next key is drawn.
+//! - `constants` draws nothing. It takes key lengths 12, 18, 24 in this order, and
+//!   for each prints the lines constant for s = 0 to 6t + 1, then for s = 33, 43, 44,
+//!   65, 257, 65537 and 4294967295.
 //! - `pages` takes key lengths 12, 18, 24 in this order, for each its round counts
 //!   upward (10..11, 14..17, 18..23), and for each of these does this once: draw
 //!   FIRST and then SECOND (12, 18 or 24 bytes each), draw BLOCK (4 bytes, big end
@@ -39,13 +42,20 @@ use crate::layers::{gamma, pi, sigma, theta};
 use crate::matrix::{Matrix, State};
 use crate::pages::{seal, PAGE_LENGTH, PAYLOAD_LENGTH, SCRATCH_LENGTH};
 use crate::sbox;
-use crate::schedule::{cipher_key, psi, select};
+use crate::schedule::{cipher_key, psi, select, step_constant_bytes};
 
 /// The seed from which every subcommand starts.
 pub(crate) const SEED: u64 = 1;
 
 /// The key lengths in bytes (section 3.5), in the order of Table 2.
 pub(crate) const KEY_LENGTHS: [usize; 3] = [12, 18, 24];
+
+/// The numbers far above 6t for which `constants` has lines. There are no such steps.
+/// With the formula of section 3.6, an index into the S-box would be no byte from 33,
+/// 43 and 65 on, for keys of 24, 18 and 12 bytes. For 18 bytes, all six indices would
+/// be none from 44 on. A program that takes the number as one byte, or as two, has 1 for
+/// 257, or for 65537.
+const FAR_STEPS: [usize; 7] = [33, 43, 44, 65, 257, 65_537, 4_294_967_295];
 
 /// Bytes as lowercase hexadecimal digits, two for each.
 pub fn hex(bytes: &[u8]) -> String {
@@ -255,6 +265,30 @@ fn add_stage_lines_of<const N: usize>(text: &mut String, key: &[u8]) -> Result<(
         let stage = matrix_hex(&stage);
         add_line(text, &["stage", &hex(key), &r.to_string(), &stage, &subkey]);
     }
+    Ok(())
+}
+
+/// The constants of the steps of a turn, and of numbers outside a turn, for every key
+/// length. The number of steps 6t is the key length in bytes.
+pub fn constants_text() -> Result<String, Error> {
+    let mut text = String::new();
+    for key_length in KEY_LENGTHS {
+        for s in (0..=key_length + 1).chain(FAR_STEPS) {
+            add_constant_line(&mut text, key_length, s)?;
+        }
+    }
+    Ok(text)
+}
+
+/// The line for the constant of step s for keys of 12, 18 or 24 bytes.
+pub(crate) fn add_constant_line(
+    text: &mut String,
+    key_length: usize,
+    s: usize,
+) -> Result<(), Error> {
+    let constant = hex(&step_constant_bytes(key_length, s)?);
+    let length = key_length.to_string();
+    add_line(text, &["constant", &length, &s.to_string(), &constant]);
     Ok(())
 }
 

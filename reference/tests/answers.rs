@@ -15,7 +15,7 @@ use curupira_reference::page_answers::{open_with, seal_with};
 use curupira_reference::pages::{open, page_under, seal};
 use curupira_reference::roll::{counts_from_bytes, counts_to_bytes, Grant, Refusal, Roll};
 use curupira_reference::schedule::{accumulated_constant, cipher_key, omega, omega_power};
-use curupira_reference::vectors::hex;
+use curupira_reference::vectors::{constants_text, hex};
 
 /// The keys of 12, 18 and 24 bytes.
 const KEYS: [&str; 3] = [
@@ -94,6 +94,7 @@ fn the_lines_stand_in_the_documented_order() {
         ("block", 1),
         ("stage", 9),
         ("closing", 3),
+        ("constant", 18),
         ("list", 1),
         ("turned", 1),
         ("plain", 2),
@@ -119,7 +120,7 @@ fn the_lines_stand_in_the_documented_order() {
         .iter()
         .flat_map(|(name, count)| vec![Some(*name); *count]);
     assert!(names.eq(documented));
-    assert_eq!(text.lines().count(), 201);
+    assert_eq!(text.lines().count(), 219);
 }
 
 /// The lines that README.md prints.
@@ -299,6 +300,66 @@ fn the_closing_sums_are_the_constants_of_the_readme() {
         assert_eq!(*line, format!("closing {} {}", length, sum));
         assert!(readme.contains(&format!("| {} | {} |", length / 6, sum)));
     }
+}
+
+/// Section 3.6: step 1 has S[0], S[1], ... in row 0. The indices of step 6t - 1 start
+/// with 2t(6t-2), which is 40, 96 and 176, or hex 28, 60 and B0. Step 6t has the closing
+/// sum. The numbers 0, 6t + 1 and 65 are those of no step.
+#[test]
+fn the_constants_are_as_written_by_hand() {
+    let written = [
+        "constant 12 0 000000000000000000000000",
+        "constant 12 1 ba00005400002f0000740000",
+        "constant 12 11 a50000cb00006b0000950000",
+        "constant 12 12 129b2e3b5b649eae1b0a310e",
+        "constant 12 13 000000000000000000000000",
+        "constant 12 65 000000000000000000000000",
+        "constant 18 0 000000000000000000000000000000000000",
+        "constant 18 1 ba00005400002f0000740000530000d30000",
+        "constant 18 17 b90000730000e90000350000550000710000",
+        "constant 18 18 1377e3aabf5ad61138c08949fdae13124e6b",
+        "constant 18 19 000000000000000000000000000000000000",
+        "constant 18 65 000000000000000000000000000000000000",
+        "constant 24 0 000000000000000000000000000000000000000000000000",
+        "constant 24 1 ba00005400002f0000740000530000d30000d200004d0000",
+        "constant 24 23 e100002e0000e40000e00000eb0000900000a400001e0000",
+        "constant 24 24 de830c3728881ad6223f464e18ed167cad899c8707980488",
+        "constant 24 25 000000000000000000000000000000000000000000000000",
+        "constant 24 65 000000000000000000000000000000000000000000000000",
+    ];
+    assert_eq!(lines_of("constant"), written);
+}
+
+/// All of them are lines of `constants` too, and those of step 6t have the closing sums.
+#[test]
+fn the_constants_are_those_of_the_other_lines() {
+    let text = constants_text().expect("all key lengths are allowed");
+    let constants = lines_of("constant");
+    for line in &constants {
+        assert!(text.lines().any(|other| other == line));
+    }
+    for sum in fields_of("closing") {
+        let line = format!("constant {} {} {}", sum[1], sum[1], sum[2]);
+        assert!(constants.contains(&line));
+    }
+}
+
+/// Stage 1 of a key is omega of the key plus the constant of step 1, and the key is
+/// omega of stage 6t - 1 plus the constant of step 6t.
+fn check_constants<const N: usize>(key: &str, constants: &[Vec<String>], stages: &[Vec<String>]) {
+    let first = matrix::<N>(key).plus(&matrix(&constants[1][3]));
+    assert_eq!(hex(&omega(&first).to_bytes()), stages[0][3]);
+    let last = matrix::<N>(&stages[2][3]).plus(&matrix(&constants[3][3]));
+    assert_eq!(hex(&omega(&last).to_bytes()), key);
+}
+
+#[test]
+fn the_constants_take_stages_to_stages() {
+    let constants = fields_of("constant");
+    let stages = fields_of("stage");
+    check_constants::<4>(KEYS[0], &constants[..6], &stages[..3]);
+    check_constants::<6>(KEYS[1], &constants[6..12], &stages[3..6]);
+    check_constants::<8>(KEYS[2], &constants[12..], &stages[6..]);
 }
 
 #[test]

@@ -64,7 +64,7 @@ fn the_generator_starts_as_documented() {
 
 #[test]
 fn bad_usage_ends_with_status_two() {
-    let wrong: [&[&str]; 9] = [
+    let wrong: [&[&str]; 11] = [
         &[],
         &["other"],
         &[""],
@@ -74,6 +74,8 @@ fn bad_usage_ends_with_status_two() {
         &["answers", "grants"],
         &["page"],
         &["pages", "answers"],
+        &["constant"],
+        &["constants", "12"],
     ];
     for arguments in wrong {
         let output = run(arguments);
@@ -224,6 +226,86 @@ fn stages_draws_its_inputs_as_documented() {
     assert!(rest.next().is_none());
 }
 
+/// The closing sums that README.md prints, for keys of 12, 18 and 24 bytes.
+const CLOSING_SUMS: [&str; 3] = [
+    "129b2e3b5b649eae1b0a310e",
+    "1377e3aabf5ad61138c08949fdae13124e6b",
+    "de830c3728881ad6223f464e18ed167cad899c8707980488",
+];
+
+/// The constant of step s for keys of the given length, by the words of README.md and
+/// with the published S-box.
+fn documented_constant(key_length: usize, s: usize) -> String {
+    let published = include_str!("../published/sbox.txt").to_lowercase();
+    let table: Vec<&str> = published.split_whitespace().collect();
+    let columns = key_length / 3;
+    if s == key_length {
+        CLOSING_SUMS[key_length / 6 - 2].to_string()
+    } else if (1..key_length).contains(&s) {
+        let first = columns * (s - 1);
+        let row = &table[first..first + columns];
+        row.iter().map(|entry| format!("{}0000", entry)).collect()
+    } else {
+        "00".repeat(key_length)
+    }
+}
+
+#[test]
+fn constants_prints_the_documented_lines() {
+    let printed = lines("constants");
+    assert_eq!(printed.len(), 81);
+    let mut rest = printed.iter();
+    for (key_length, _, _) in SIZES {
+        let turn = 0..=key_length + 1;
+        for s in turn.chain([33, 43, 44, 65, 257, 65537, 4294967295]) {
+            let line = rest.next().expect("there are more lines");
+            let (length, number) = (key_length.to_string(), s.to_string());
+            let constant = documented_constant(key_length, s);
+            assert_eq!(constant.len(), 2 * key_length);
+            assert_eq!(line[..], ["constant", &length, &number, &constant]);
+        }
+    }
+    assert!(rest.next().is_none());
+}
+
+/// The entries of the S-box are looked up by hand in the table that `sbox` prints. The
+/// indices start with 2t(s-1), which for these lines is hex 00, 04 and 28 for t = 2,
+/// hex 00, 42 and 60 for t = 3, and hex 00, 08 and B0 for t = 4.
+#[test]
+fn constants_has_the_lines_worked_out_by_hand() {
+    let worked_out = [
+        "constant 12 1 ba00005400002f0000740000",
+        "constant 12 2 530000d30000d200004d0000",
+        "constant 12 11 a50000cb00006b0000950000",
+        "constant 18 1 ba00005400002f0000740000530000d30000",
+        "constant 18 12 ff0000ed0000e800009d00006f00008e0000",
+        "constant 18 17 b90000730000e90000350000550000710000",
+        "constant 24 1 ba00005400002f0000740000530000d30000d200004d0000",
+        "constant 24 2 500000ac00008d0000bf00007000005200009a00004c0000",
+        "constant 24 23 e100002e0000e40000e00000eb0000900000a400001e0000",
+    ];
+    let printed: Vec<String> = lines("constants")
+        .iter()
+        .map(|line| line.join(" "))
+        .collect();
+    for line in worked_out {
+        assert_eq!(printed.iter().filter(|other| *other == line).count(), 1);
+    }
+}
+
+/// README.md prints the first lines and those around step 6t, for keys of 12 bytes.
+#[test]
+fn constants_has_the_lines_of_the_readme() {
+    let printed: Vec<String> = lines("constants")
+        .iter()
+        .map(|line| line.join(" "))
+        .collect();
+    let readme = include_str!("../README.md");
+    for part in [&printed[..3], &printed[11..14]] {
+        assert!(readme.contains(&format!("\n\n    {}\n\n", part.join("\n    "))));
+    }
+}
+
 /// The name of a drawn call, and the destination if it is a walk.
 fn drawn_call(draw: &mut Draw) -> Vec<String> {
     let drawn = bytes(&draw.hex(2));
@@ -331,13 +413,14 @@ fn opened(keys: &[&str; 2], rounds: usize, page: &str) -> Vec<u8> {
 
 /// The names of the lines of answers, each with how many there are of it and how many
 /// fields they have, the name being one of them.
-const ANSWERS: [(&str, usize, usize); 26] = [
+const ANSWERS: [(&str, usize, usize); 27] = [
     ("limits", 3, 4),
     ("roll", 1, 6),
     ("rollbytes", 1, 6),
     ("block", 1, 5),
     ("stage", 9, 5),
     ("closing", 3, 3),
+    ("constant", 18, 4),
     ("list", 1, 4),
     ("turned", 1, 4),
     ("plain", 2, 6),

@@ -4,11 +4,12 @@
 use curupira_reference::error::Error;
 use curupira_reference::generator::Generator;
 use curupira_reference::matrix::{Matrix, IDENTITY};
+use curupira_reference::routes::{walk, Way};
 use curupira_reference::sbox::substitute;
 use curupira_reference::schedule::{
-    accumulated_constant, cipher_key, e_matrix, inverse_mu, inverse_omega, inverse_psi, inverse_xi,
-    key_of_stage, key_stage, mu, omega, omega_power, psi, round_subkeys, schedule_constant, select,
-    xi,
+    accumulated_constant, cipher_key, closing_sum, e_matrix, inverse_mu, inverse_omega,
+    inverse_psi, inverse_xi, key_of_stage, key_stage, mu, omega, omega_power, psi, round_subkeys,
+    schedule_constant, select, step_constant, step_constant_bytes, xi,
 };
 use curupira_reference::vectors::hex;
 
@@ -365,4 +366,249 @@ fn the_subkeys_are_selected_from_the_stages() {
     check_subkeys::<6>();
     check_subkeys::<8>();
     assert_eq!(round_subkeys(&[0; 13], 10), Err(Error::KeyLength(13)));
+}
+
+/// Many cipher keys of N columns: the zero key, the key that is all ones, and
+/// pseudo-random ones.
+fn many_keys<const N: usize>() -> Vec<Matrix<N>> {
+    let mut generator = Generator::new(21);
+    let mut keys = vec![Matrix::zero(), Matrix::from_rule(|_, _| 0xFF)];
+    for _ in 0..64 {
+        let bytes = generator.bytes(3 * N);
+        keys.push(cipher_key(&bytes).expect("a key of the right length"));
+    }
+    keys
+}
+
+/// The one statement about the constants of the steps: for every key and for each s
+/// from 1 to 6t, the stage at s modulo 6t is omega of the stage s - 1 plus the constant
+/// of step s. The stages are those of section 3.7, each from the key.
+fn check_every_step<const N: usize>() {
+    let turn = 3 * N;
+    for s in 1..=turn {
+        let constant = step_constant(s);
+        for key in many_keys::<N>() {
+            let sum = key_stage(&key, s - 1).plus(&constant);
+            assert_eq!(omega(&sum), key_stage(&key, s % turn), "step {}", s);
+        }
+    }
+}
+
+#[test]
+fn every_step_of_a_turn_adds_its_constant_before_omega() {
+    check_every_step::<4>();
+    check_every_step::<6>();
+    check_every_step::<8>();
+}
+
+/// The steps of the paper are those with the constants of the steps, from step 1 to
+/// step 6t - 1. In the step after these psi adds q^(6t), as it is defined, which is
+/// not the closing sum.
+fn check_paper_steps<const N: usize>() {
+    let turn = 3 * N;
+    for a in some_keys::<N>() {
+        for r in 1..turn {
+            let constant = step_constant(r);
+            assert_eq!(psi(r, &a), omega(&a.plus(&constant)));
+            assert_eq!(inverse_psi(r, &a), inverse_omega(&a).plus(&constant));
+        }
+        assert_ne!(psi(turn, &a), omega(&a.plus(&step_constant(turn))));
+    }
+}
+
+#[test]
+fn the_steps_of_the_paper_add_the_same_constants() {
+    check_paper_steps::<4>();
+    check_paper_steps::<6>();
+    check_paper_steps::<8>();
+}
+
+/// The constant of step 6t is what the steps of the paper make of the zero key. It is
+/// Q^(6t-1) of section 3.7. For any key it is what has to be added to the last stage,
+/// so that omega gives the key.
+fn check_closing_constant<const N: usize>() {
+    let last = 3 * N - 1;
+    let constant = step_constant::<N>(last + 1);
+    assert_eq!(constant, closing_sum());
+    assert_eq!(constant, accumulated_constant(last));
+    assert_eq!(
+        constant,
+        (1..=last).fold(Matrix::zero(), |stage, r| psi(r, &stage))
+    );
+    for key in some_keys::<N>() {
+        let before = inverse_omega(&key);
+        assert_eq!(key_stage(&key, last).plus(&before), constant);
+    }
+}
+
+#[test]
+fn the_constant_of_the_last_step_is_the_closing_sum() {
+    check_closing_constant::<4>();
+    check_closing_constant::<6>();
+    check_closing_constant::<8>();
+}
+
+/// Numbers above 6t, near and far: a sweep, the powers of two and their neighbours, and
+/// numbers with which 2t(s-1) or 2t(s-1) + j would pass the greatest number or come
+/// back from there to a small one.
+fn numbers_above_a_turn<const N: usize>() -> Vec<usize> {
+    let turn = 3 * N;
+    let mut numbers: Vec<usize> = (turn + 1..=turn + 5_000).collect();
+    for exponent in 8..usize::BITS {
+        let power = 1 << exponent;
+        numbers.extend([power - 1, power, power + 1, power + turn]);
+    }
+    let last = usize::MAX / N;
+    numbers.extend([last, last + 1, last + 2, last + 3]);
+    numbers.extend([usize::MAX - turn, usize::MAX - 1, usize::MAX]);
+    numbers
+}
+
+/// The constant is zero for all numbers outside a turn, and for none of its steps.
+fn check_zero_constants<const N: usize>() {
+    assert_eq!(step_constant::<N>(0), Matrix::zero());
+    for s in 1..=3 * N {
+        assert_ne!(step_constant::<N>(s), Matrix::zero(), "step {}", s);
+    }
+    for s in numbers_above_a_turn::<N>() {
+        assert!(s > 3 * N);
+        assert_eq!(step_constant::<N>(s), Matrix::zero(), "step {}", s);
+        let bytes = step_constant_bytes(3 * N, s);
+        assert_eq!(bytes, Ok(vec![0; 3 * N]), "step {}", s);
+    }
+}
+
+#[test]
+fn the_constant_is_zero_outside_a_turn_only() {
+    check_zero_constants::<4>();
+    check_zero_constants::<6>();
+    check_zero_constants::<8>();
+}
+
+/// Every constant differs from the one before, so that a number off by one shows: omega
+/// takes no other sum to the stage. Every two constants of a turn differ.
+fn check_constants_tell_steps_apart<const N: usize>() {
+    let turn = 3 * N;
+    let key = many_keys::<N>()[2];
+    for s in 1..=turn {
+        for other in (0..=turn + 1).filter(|other| *other != s) {
+            let constant = step_constant(other);
+            assert_ne!(constant, step_constant::<N>(s));
+            let sum = key_stage(&key, s - 1).plus(&constant);
+            assert_ne!(omega(&sum), key_stage(&key, s % turn));
+        }
+    }
+}
+
+#[test]
+fn no_step_has_the_constant_of_another() {
+    check_constants_tell_steps_apart::<4>();
+    check_constants_tell_steps_apart::<6>();
+    check_constants_tell_steps_apart::<8>();
+}
+
+/// One step forward from a place, by the constants alone: the place after it and the
+/// stage there.
+fn stepped_forward<const N: usize>(place: usize, stage: &Matrix<N>) -> (usize, Matrix<N>) {
+    let s = place + 1;
+    (s % (3 * N), omega(&stage.plus(&step_constant(s))))
+}
+
+/// One step back from a place, by the constants alone.
+fn stepped_back<const N: usize>(place: usize, stage: &Matrix<N>) -> (usize, Matrix<N>) {
+    let s = if place == 0 { 3 * N } else { place };
+    (s - 1, inverse_omega(stage).plus(&step_constant(s)))
+}
+
+/// So many steps one way, by the constants alone.
+fn stepped<const N: usize>(
+    place: usize,
+    stage: &Matrix<N>,
+    steps: usize,
+    way: Way,
+) -> (usize, Matrix<N>) {
+    let step = match way {
+        Way::Forward => stepped_forward,
+        Way::Back => stepped_back,
+    };
+    (0..steps).fold((place, *stage), |(place, stage), _| step(place, &stage))
+}
+
+/// A full turn, which is 6t steps on end one way, comes back to where it starts, from
+/// any place and whatever the stage there.
+fn check_full_turns<const N: usize>() {
+    let turn = 3 * N;
+    for stage in some_keys::<N>() {
+        for place in 0..turn {
+            for way in [Way::Forward, Way::Back] {
+                let after = stepped(place, &stage, turn, way);
+                assert_eq!(after, (place, stage));
+            }
+        }
+    }
+}
+
+#[test]
+fn full_turns_by_the_constants_come_back() {
+    check_full_turns::<4>();
+    check_full_turns::<6>();
+    check_full_turns::<8>();
+}
+
+/// A walk by the constants alone arrives at the stage that the steps of the paper make
+/// of the key, from every place to every place. So do the steps straight from the key.
+fn check_walks<const N: usize>() {
+    let turn = 3 * N;
+    let key = many_keys::<N>()[2];
+    let stages: Vec<Matrix<N>> = (0..turn).map(|s| key_stage(&key, s)).collect();
+    for (to, stage) in stages.iter().enumerate() {
+        for (from, start) in stages.iter().enumerate() {
+            let walked = walk(turn, from, to);
+            let arrived = stepped(from, start, walked.steps, walked.way);
+            assert_eq!(arrived, (to, *stage));
+        }
+        assert_eq!(stepped(0, &key, to, Way::Forward), (to, *stage));
+    }
+}
+
+#[test]
+fn walks_by_the_constants_arrive_at_the_stages() {
+    check_walks::<4>();
+    check_walks::<6>();
+    check_walks::<8>();
+}
+
+/// The bytes of the constants by the formula of section 3.6: byte 3j is
+/// S[2t(s-1) + j] for steps 1 to 6t - 1, and all others are zero.
+fn check_constant_bytes<const N: usize>() {
+    let turn = 3 * N;
+    for s in 0..=turn + 1 {
+        let bytes = step_constant_bytes(turn, s).expect("an allowed key length");
+        assert_eq!(bytes, step_constant::<N>(s).to_bytes());
+        if (1..turn).contains(&s) {
+            let mut expected = vec![0; turn];
+            for j in 0..N {
+                expected[3 * j] = substitute((N * (s - 1) + j) as u8);
+            }
+            assert_eq!(bytes, expected);
+        }
+    }
+}
+
+#[test]
+fn the_bytes_of_the_constants_stand_by_columns() {
+    check_constant_bytes::<4>();
+    check_constant_bytes::<6>();
+    check_constant_bytes::<8>();
+}
+
+/// The refusal is that of any other length of a key, whatever the step.
+#[test]
+fn other_key_lengths_have_no_constants() {
+    for key_length in [0, 4, 6, 11, 13, 17, 19, 23, 25, 30, usize::MAX] {
+        for s in [0, 1, 12, 25, usize::MAX] {
+            let refused = step_constant_bytes(key_length, s);
+            assert_eq!(refused, Err(Error::KeyLength(key_length)));
+        }
+    }
 }

@@ -13,7 +13,7 @@ use Rattle.refusal.specs.Tries.{first, answered}
 use Rattle.sizes.proofs.KnownAnswers as S
 use Rattle.block_bytes.proofs.KnownAnswers as B
 use Rattle.stages.specs.Columns.{columns, plus, padded, columnRule}
-use Rattle.stages.specs.Stages.{moved, linearStep, constant, stage, zeros, closingSum, subkeyOf}
+use Rattle.stages.specs.Stages.{moved, linearStep, constant, stage, zeros, closingSum, stepConstant, subkeyOf}
 use Rattle.stages.specs.KnownAnswers.{keyOf12}
 use Rattle.stages.proofs.KnownAnswers as K
 use Rattle.key_lists.specs.KeyLists.{subkeys, listFor}
@@ -56,9 +56,14 @@ of-stage : {R : Type 0} (n s : ℕ) {k e : List ℕ} → k ≡ e → R
     → (k ≡ e) × ((joined (subkeyOf k) ≡ joined (subkeyOf e)) × ((lent n s k ≡ lent n s e) × R))
 of-stage n s p rest = (p, (ap (λ (x : List ℕ). joined (subkeyOf x)) p, (ap (lent n s) p, rest)))
 
+-- of a closing sum, as such and as the constant of the last step
+of-sum : {R : Type 0} {k e : List ℕ} → k ≡ e → R → (k ≡ e) × ((k ≡ e) × R)
+of-sum p rest = (p, (p, rest))
+
 last-stages : Hold knownAnswers
-unfolding knownAnswers sbox tableP tableQ times product reduced columns plus padded columnRule moved linearStep constant stage zeros closingSum holderBytes
-last-stages = of-stage 12 11 refl (of-stage 18 17 refl (of-stage 24 23 refl (refl & refl & refl & tt)))
+unfolding knownAnswers sbox tableP tableQ times product reduced columns plus padded columnRule moved linearStep constant stage zeros closingSum stepConstant
+    holderBytes
+last-stages = of-stage 12 11 refl (of-stage 18 17 refl (of-stage 24 23 refl (of-sum refl (of-sum refl (of-sum refl tt)))))
 
 -- each grant is deciphered once
 opened-a : openedGrant keyOf12 10 overwritingOf1 ≡ threes (0x000100 ∷ 0x010000 ∷ 0x012C02 ∷ 0x475244 ∷ [])

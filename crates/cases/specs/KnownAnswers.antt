@@ -10,7 +10,7 @@ use Rattle.basics.specs.Cases.{Case, _is_, HoldAll, threes, joined}
 use Rattle.sizes.specs.KnownAnswers as S
 use Rattle.block_bytes.specs.KnownAnswers as B
 use Rattle.engine.specs.Engine.{engineNumber}
-use Rattle.stages.specs.Stages.{stage, closingSum, subkeyOf}
+use Rattle.stages.specs.Stages.{stage, closingSum, stepConstant, subkeyOf}
 use Rattle.stages.specs.KnownAnswers.{keyOf12, keyOf18, keyOf24}
 use Rattle.stages.specs.KnownAnswers as K
 use Rattle.lists.specs.Lists.{prepareNumber}
@@ -41,7 +41,7 @@ use Rattle.key_pairs.specs.KnownAnswers as KP
 use Rattle.pages.specs.KnownAnswers as P
 use Rattle.page_cases.specs.KnownAnswers as PC
 
--- the last stage of a key of each size, its subkey and the holder there, and the closing sums
+-- the last stage of a key of each size, its subkey and the holder there, and the closing sums, also as the constants of the last steps
 unfoldable pub knownAnswers : List Case
 knownAnswers =
     -- stage 0f1e2d3c4b5a69788796a5b4 11
@@ -64,10 +64,16 @@ knownAnswers =
     0x2B ∷ 0xA3 ∷ 0xEA ∷ 0x85 ∷ 0xF6 ∷ 0xA9 ∷ 0x84 ∷ 0x3D ∷ 0x79 ∷ 0xD3 ∷ []))
     -- closing 12
     ∷ (closingSum 2 is threes (0x129B2E ∷ 0x3B5B64 ∷ 0x9EAE1B ∷ 0x0A310E ∷ []))
+    -- constant 12 12
+    ∷ (stepConstant 2 12 is threes (0x129B2E ∷ 0x3B5B64 ∷ 0x9EAE1B ∷ 0x0A310E ∷ []))
     -- closing 18
     ∷ (closingSum 3 is threes (0x1377E3 ∷ 0xAABF5A ∷ 0xD61138 ∷ 0xC08949 ∷ 0xFDAE13 ∷ 0x124E6B ∷ []))
+    -- constant 18 18
+    ∷ (stepConstant 3 18 is threes (0x1377E3 ∷ 0xAABF5A ∷ 0xD61138 ∷ 0xC08949 ∷ 0xFDAE13 ∷ 0x124E6B ∷ []))
     -- closing 24
     ∷ (closingSum 4 is threes (0xDE830C ∷ 0x372888 ∷ 0x1AD622 ∷ 0x3F464E ∷ 0x18ED16 ∷ 0x7CAD89 ∷ 0x9C8707 ∷ 0x980488 ∷ []))
+    -- constant 24 24
+    ∷ (stepConstant 4 24 is threes (0xDE830C ∷ 0x372888 ∷ 0x1AD622 ∷ 0x3F464E ∷ 0x18ED16 ∷ 0x7CAD89 ∷ 0x9C8707 ∷ 0x980488 ∷ []))
     ∷ []
 
 -- four grants for size block 300: two of contractor 1, to overwrite and to read, and one each of contractors 2 and 3, to overwrite

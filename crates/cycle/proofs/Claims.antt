@@ -4,7 +4,7 @@ use Rattle.cycle.proofs.Around.{back-undoes, forward-undoes, after-key,
 
 pub step-back-undoes : StepBackUndoes
 unfolding StepBackUndoes
-step-back-undoes t z s h k p = (back-undoes t s h p, forward-undoes t s h p)
+step-back-undoes t s k p = (back-undoes t s p, forward-undoes t s p)
 
 pub steps-follow-stages : StepsFollowStages
 unfolding StepsFollowStages

@@ -1,4 +1,4 @@
-pub mod Addends
+pub mod Numbers
 pub mod Around
 pub mod Agree
 pub mod Claims

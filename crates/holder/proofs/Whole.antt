@@ -11,14 +11,14 @@ use borrow.Author.Tests.{ltb-true, lt-ltb}
 use Rattle.basics.proofs.Tests.{and-first, and-second}
 use Rattle.sizes.specs.Sizes.{Sized, keyLength, tOf, turn}
 use Rattle.stages.specs.Columns.{padded, columnRule}
-use Rattle.stages.specs.Stages.{linearStep}
+use Rattle.stages.specs.Stages.{linearStep, stageAfter, stageBefore}
 use Rattle.stages.proofs.Columns.{length-columns}
 use Rattle.sizes.proofs.Keys.{a-key}
 use Rattle.stages.proofs.Keys.{key-length, length-stage}
-use Rattle.stages.proofs.Padded.{length-plus}
+use Rattle.stages.proofs.Padded.{length-plus, length-padded}
 use Rattle.basics.specs.Repeated.{repeated}
-use Rattle.cycle.specs.Cycle.{following, preceding, stageAfter, stageBefore}
-use Rattle.cycle.proofs.Addends.{following-below, preceding-below}
+use Rattle.cycle.specs.Cycle.{following, preceding}
+use Rattle.cycle.proofs.Numbers.{following-below, preceding-below}
 use Rattle.holder.specs.declared.Holder.{Holder}
 use Rattle.holder.specs.declared.Way.{Way}
 use Rattle.holder.specs.declared.Way.the-variants.{Forward, Back}
@@ -67,8 +67,8 @@ module _ (h : Holder) (e : whole h ≡ true) where
   pub number-asks : Sized (tHeld h) × (h .number < turn (tHeld h))
   number-asks = let w = a-whole h e in (size-held h w, w .below)
 
-  pub step-asks : length (h .bytes) ≡ 24 → Sized (tHeld h) × ((h .number < turn (tHeld h)) × (length (h .bytes) ≡ 24))
-  step-asks l = (number-asks .0, (number-asks .1, l))
+  pub step-asks : length (h .bytes) ≡ 24 → Sized (tHeld h) × (length (h .bytes) ≡ 24)
+  step-asks l = (number-asks .0, l)
 
   module _ (l : length (h .bytes) ≡ 24) (way : Way) (n : ℕ) (b : List ℕ) where
     padded-held : (x : List ℕ) → length x ≡ 3 * (2 * tHeld h) → b ≡ x ++ drop (6 * tHeld h) (h .bytes) → b ≡ padded x
@@ -77,20 +77,18 @@ module _ (h : Holder) (e : whole h ≡ true) where
         let z = ap (λ (m : ℕ). allZero (drop m (h .bytes))) (turn-held h w) ∙ w .zeros in
         eb ∙ zeros-kept x (h .bytes) (6 * tHeld h) (omega arith) l z
 
-    pub step-on : way ≡ Forward → b ≡ stageAfter (tHeld h) (h .number) (h .bytes) ++ drop (6 * tHeld h) (h .bytes)
+    pub step-on : way ≡ Forward → b ≡ stageAfter (tHeld h) (h .number + 1) (h .bytes) ++ drop (6 * tHeld h) (h .bytes)
         → n ≡ following (tHeld h) (h .number) → record { length = h .length; number = n; bytes = b } ≡ stepped way h
     unfolding stepped onward
     step-on ew eb en =
-        let x = stageAfter (tHeld h) (h .number) (h .bytes) in
-        let p = padded-held x (length-after (tHeld h) (h .number) (h .bytes)) eb in
+        let p = padded-held _ (length-after (tHeld h) (h .number + 1) (h .bytes)) eb in
         (λ i. record { length = h .length; number = en i; bytes = p i }) ∙ ap (λ (w : Way). stepped w h) (sym ew)
 
-    pub step-back : way ≡ Back → b ≡ stageBefore (tHeld h) (h .number) (h .bytes) ++ drop (6 * tHeld h) (h .bytes)
+    pub step-back : way ≡ Back → b ≡ stageBefore (tHeld h) (n + 1) (h .bytes) ++ drop (6 * tHeld h) (h .bytes)
         → n ≡ preceding (tHeld h) (h .number) → record { length = h .length; number = n; bytes = b } ≡ stepped way h
     unfolding stepped backward
     step-back ew eb en =
-        let x = stageBefore (tHeld h) (h .number) (h .bytes) in
-        let p = padded-held x (length-before (tHeld h) (h .number) (h .bytes)) eb in
+        let p = padded-held _ (length-before (tHeld h) (n + 1) (h .bytes)) eb ∙ ap (λ (m : ℕ). padded (stageBefore (tHeld h) (m + 1) (h .bytes))) en in
         (λ i. record { length = h .length; number = en i; bytes = p i }) ∙ ap (λ (w : Way). stepped w h) (sym ew)
 
 onward-whole : (h : Holder) → Whole h → Whole (onward h)
@@ -98,19 +96,27 @@ unfolding onward
 onward-whole h w =
     let t = tHeld h in
     let e : 3 * (2 * t) ≡ h .length = omega (arith, turn-held h w) in
-    record { key = w .key; below = following-below t (h .number) (w .below); zeros = padded-zeros _ (h .length) (length-after t (h .number) (h .bytes) ∙ e) }
+    record { key = w .key; below = following-below t (h .number) (w .below); zeros = padded-zeros _ (h .length) (length-after t _ (h .bytes) ∙ e) }
 
 backward-whole : (h : Holder) → Whole h → Whole (backward h)
 unfolding backward
 backward-whole h w =
     let t = tHeld h in
     let e : 3 * (2 * t) ≡ h .length = omega (arith, turn-held h w) in
-    record { key = w .key; below = preceding-below t (h .number) (w .below); zeros = padded-zeros _ (h .length) (length-before t (h .number) (h .bytes) ∙ e) }
+    record { key = w .key; below = preceding-below t (h .number) (w .below); zeros = padded-zeros _ (h .length) (length-before t _ (h .bytes) ∙ e) }
 
 pub step-whole : (way : Way) (h : Holder) → whole h ≡ true → whole (stepped way h) ≡ true
 unfolding stepped
 step-whole Forward h e = is-whole (onward h) (onward-whole h (a-whole h e))
 step-whole Back h e = is-whole (backward h) (backward-whole h (a-whole h e))
+
+-- and a step leaves 24 bytes
+pub step-length : (way : Way) (h : Holder) → whole h ≡ true → length (stepped way h .bytes) ≡ 24
+unfolding stepped onward backward
+step-length Forward h e =
+    length-padded _ (omega (arith, length-after (tHeld h) (h .number + 1) (h .bytes), size-held h (a-whole h e) .most))
+step-length Back h e =
+    length-padded _ (omega (arith, length-before (tHeld h) (preceding (tHeld h) (h .number) + 1) (h .bytes), size-held h (a-whole h e) .most))
 
 pub steps-whole : (way : Way) (m : ℕ) (h : Holder) → whole h ≡ true → whole (repeated m (stepped way) h) ≡ true
 steps-whole way zero h w = w

@@ -3,8 +3,9 @@
 
 ghost use mathlib.Core.Path.{_≡_};
 ghost use mathlib.Core.Bool.{true};
+ghost use lib.ListN.{length};
 ghost use Rattle.basics.specs.Repeated.{repeated};
-ghost use Rattle.holder.specs.Holder.{whole, blank, stepped};
+ghost use Rattle.holder.specs.Holder.{holding, whole, blank, stepped};
 use basics::both;
 use refusal::Outcome;
 
@@ -52,46 +53,50 @@ pub fn blank_holder() -> Holder
     }
 }
 
-// One step, the way that is told, on a copy of the holder's bytes.
-pub fn step(way: Way, h: Holder) -> Holder
-    requires { ⌜ whole h ≡ true ⌝ }
-    ensures { λ r. ⌜ r ≡ stepped way h ⌝ }
+// One step, the way that is told, of a stage of a key of n bytes, in its place; the answer is the number of the stage that it leads to.
+fn step_bytes(way: Way, n: usize, number: usize, bytes: &mut [u8; 24]) -> usize
+    requires { ⌜ (whole (holding n number (now bytes)) ≡ true) × (length (now bytes) ≡ 24) ⌝ }
+    ensures { λ r. ⌜ holding n r (now (bytes .exit)) ≡ stepped way (holding n number (now (bytes .entry))) ⌝ }
 {
-    let length = h.length;
-    let number = h.number;
-    let t = length / 6;
-    let mut bytes = h.bytes;
+    let t = n / 6;
     match way {
         Way::Forward => {
-            cycle::stage_after(t, number, &mut bytes);
-            Holder {
-                length,
-                number: cycle::number_after(t, number),
-                bytes,
-            }
+            schedule::next_stage(t, number + 1, bytes);
+            cycle::number_after(t, number)
         }
         Way::Back => {
-            cycle::stage_before(t, number, &mut bytes);
-            Holder {
-                length,
-                number: cycle::number_before(t, number),
-                bytes,
-            }
+            let before = cycle::number_before(t, number);
+            cycle::previous_stage(t, before + 1, bytes);
+            before
         }
     }
 }
 
-// As many steps as told, one after the other.
+// As many steps as told, one after the other, on a copy of the holder's bytes.
 pub fn steps(way: Way, count: usize, h: Holder) -> Holder
     requires { ⌜ whole h ≡ true ⌝ }
     ensures { λ r. ⌜ r ≡ repeated count (stepped way) h ⌝ }
 {
-    let mut at = h;
+    let length = h.length;
+    let mut number = h.number;
+    let mut bytes = h.bytes;
     let mut i: usize = 0;
     while i < count {
-        let next = step(way, at);
-        at = next;
+        let next = step_bytes(way, length, number, &mut bytes);
+        number = next;
         i += 1;
     }
-    at
+    Holder {
+        length,
+        number,
+        bytes,
+    }
+}
+
+// One step, the way that is told.
+pub fn step(way: Way, h: Holder) -> Holder
+    requires { ⌜ whole h ≡ true ⌝ }
+    ensures { λ r. ⌜ r ≡ stepped way h ⌝ }
+{
+    steps(way, 1, h)
 }

@@ -14,7 +14,7 @@ use Rattle.refusal.proofs.Tries.{first-holds}
 use Rattle.refusal.proofs.Answers.{kept}
 use Rattle.sizes.specs.Sizes.{keyLength, turn}
 use Rattle.sizes.proofs.Keys.{a-key}
-use Rattle.cycle.proofs.Addends.{following-below, preceding-below}
+use Rattle.cycle.proofs.Numbers.{following-below, preceding-below}
 use Rattle.holder.specs.declared.Holder.{Holder}
 use Rattle.holder.specs.declared.Way.{Way}
 use Rattle.holder.specs.declared.Way.the-variants.{Forward, Back}

@@ -13,7 +13,7 @@ use Rattle.stages.specs.Columns.{columns, fill, IsStage, filled, columnRule}
 use Rattle.sizes.specs.Sizes.{Sized}
 use Rattle.stages.specs.Stages.{byRow, moved, linearStep}
 use Rattle.basics.specs.Repeated.{repeated}
-use Rattle.period.proofs.Alike.{alike, alike-same}
+use Rattle.stages.proofs.Alike.{alike, alike-same}
 
 one-at : ℕ → ℕ → ℕ
 one-at i zero = byRow i 1 0 0

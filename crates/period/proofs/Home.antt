@@ -19,7 +19,7 @@ use Rattle.sizes.specs.Sizes.{Sized}
 use Rattle.stages.specs.Stages.{next, previous, byRow, moved, rotated, linearStep}
 use Rattle.stages.proofs.Columns.{fill-path, cell-fill}
 use Rattle.basics.specs.Repeated.{repeated}
-use Rattle.period.proofs.Alike.{alike, alike-sound}
+use Rattle.stages.proofs.Alike.{alike, alike-sound}
 
 -- ---- the numbers 0, 1, c and c + 1
 data Four : Type 0 where

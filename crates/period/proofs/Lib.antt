@@ -1,5 +1,4 @@
-pub mod Alike
 pub mod Home
 pub mod Before
-pub mod Closing
+pub mod Every
 pub mod Claims

@@ -1,1 +1,1 @@
-// No code: the period of the linear step and the closing rule, for every key size, in specs/ and proofs/.
+// No code: the period of the linear step, and every step of the turn, for every key size, in specs/ and proofs/.

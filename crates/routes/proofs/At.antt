@@ -2,7 +2,7 @@
 use mathlib.Core.Path.{_≡_, refl, sym, ap, _∙_}
 use mathlib.Core.Bool.{true}
 use mathlib.Core.List.{List, []}
-use Prim.Native.Nat.{ℕ, zero, suc, _*_, _≤_, _<_}
+use Prim.Native.Nat.{ℕ, zero, suc, _+_, _*_, _≤_, _<_}
 use native.Mathlib.Omega.{arith}
 use lib.ListN.{length}
 use borrow.Author.Tests.{lt-ltb, le-ltb}
@@ -12,13 +12,13 @@ use Rattle.block_bytes.specs.Blocks.{bytesOf}
 use Rattle.basics.specs.Bytes.{AreBytes}
 use Rattle.sizes.specs.Sizes.{keyLength, tOf, turn}
 use Rattle.stages.specs.Columns.{IsStage, plus, padded}
-use Rattle.stages.specs.Stages.{linearStep, stage, subkeyOf}
+use Rattle.stages.specs.Stages.{linearStep, stage, stepConstant, stageAfter, stageBefore, subkeyOf}
 use Rattle.stages.proofs.Columns.{as-stage}
 use Rattle.sizes.proofs.Keys.{a-key}
 use Rattle.stages.proofs.Keys.{key-length, length-stage}
 use Rattle.stages.proofs.Padded.{padded-agrees, plus-padded, subkey-agrees}
 use Rattle.basics.specs.Repeated.{repeated}
-use Rattle.cycle.specs.Cycle.{following, preceding, addend, stageAfter, stageBefore}
+use Rattle.cycle.specs.Cycle.{following, preceding}
 use Rattle.cycle.proofs.Agree.{inverse-agrees}
 use Rattle.cycle.proofs.Around.{after-key, before-key}
 use Rattle.holder.specs.declared.Way.{Way}
@@ -33,12 +33,11 @@ use Rattle.routes.proofs.Ring.{numberTo, numbers-below, arrives}
 -- ---- steps over a stage in 24 bytes
 padded-after : (t s : ℕ) (k : List ℕ) → length k ≡ 3 * (2 * t) → stageAfter t s (padded k) ≡ stageAfter t s k
 unfolding stageAfter
-padded-after t s k e =
-    ap (linearStep (2 * t)) (plus-padded (2 * t) k (addend t s) e)
+padded-after t s k e = ap (linearStep (2 * t)) (plus-padded (2 * t) k (stepConstant t s) e)
 
 padded-before : (t s : ℕ) (k : List ℕ) → length k ≡ 3 * (2 * t) → stageBefore t s (padded k) ≡ stageBefore t s k
 unfolding stageBefore
-padded-before t s k e = ap (λ (x : List ℕ). plus (2 * t) x (addend t (preceding t s))) (inverse-agrees (2 * t) (padded k) k (padded-agrees (2 * t) k e))
+padded-before t s k e = ap (λ (x : List ℕ). plus (2 * t) x (stepConstant t s)) (inverse-agrees (2 * t) (padded k) k (padded-agrees (2 * t) k e))
 
 module _ (key : List ℕ) (bytes : AreBytes key) (right : keyLength (length key) ≡ true) where
   t : ℕ
@@ -56,7 +55,7 @@ module _ (key : List ℕ) (bytes : AreBytes key) (right : keyLength (length key)
   onward-at n h i = record {
     length = length key;
     number = following t n;
-    bytes = padded ((padded-after t n (stage t key n) (stage-length n) ∙ after-key t (a-key (length key) right .sized) is-stage n h) i);
+    bytes = padded ((padded-after t (n + 1) (stage t key n) (stage-length n) ∙ after-key t (a-key (length key) right .sized) is-stage n h) i);
   }
 
   backward-at : (n : ℕ) → n < turn (tOf (length key)) → backward (holderAt key n) ≡ holderAt key (preceding (tOf (length key)) n)
@@ -64,7 +63,7 @@ module _ (key : List ℕ) (bytes : AreBytes key) (right : keyLength (length key)
   backward-at n h i = record {
     length = length key;
     number = preceding t n;
-    bytes = padded ((padded-before t n (stage t key n) (stage-length n) ∙ before-key t (a-key (length key) right .sized) is-stage n h) i);
+    bytes = padded ((padded-before t (preceding t n + 1) (stage t key n) (stage-length n) ∙ before-key t (a-key (length key) right .sized) is-stage n h) i);
   }
 
   step-at : (way : Way) (n : ℕ) → n < turn (tOf (length key)) → stepped way (holderAt key n) ≡ holderAt key (numberTo (tOf (length key)) way n)

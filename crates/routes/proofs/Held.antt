@@ -22,7 +22,7 @@ use Rattle.holder.specs.declared.Holder.{Holder}
 use Rattle.holder.specs.declared.Way.{Way}
 use Rattle.holder.specs.Holder.{tHeld, whole, holderAt, stepped}
 use Rattle.holder_steps.specs.Steps.{holderTries, holderNumber, stepHolder}
-use Rattle.holder.proofs.Whole.{a-whole, turn-held, steps-whole, whole-at}
+use Rattle.holder.proofs.Whole.{a-whole, size-held, turn-held, steps-whole, whole-at}
 use Rattle.byte_slices.proofs.Zeros.{zeros-are}
 use Rattle.routes.specs.Claims.{ComesHome}
 use Rattle.routes.proofs.Ring.{full-turn}
@@ -67,7 +67,7 @@ module _ (h : Holder) (bytes : AreBytes (h .bytes)) (all : length (h .bytes) ≡
 
   pub key-of : Key h
   key-of =
-      let o = of-key (tHeld h) (h .number) (a-whole h w .below) held-stage in
+      let o = of-key (tHeld h) (size-held h (a-whole h w)) (h .number) (a-whole h w .below) held-stage in
       let l : length (o .key) ≡ h .length = stage-length (2 * tHeld h) (o .is) ∙ omega (arith, turn-held h (a-whole h w)) in
       let z : tOf (length (o .key)) ≡ tHeld h = ap tOf l in
       record {

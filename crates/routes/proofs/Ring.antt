@@ -8,7 +8,7 @@ use Rattle.basics.proofs.Tests.{below-or-not}
 use Rattle.sizes.specs.Sizes.{turn}
 use Rattle.basics.specs.Repeated.{repeated}
 use Rattle.cycle.specs.Cycle.{following, preceding}
-use Rattle.cycle.proofs.Addends.{following-is, following-below, preceding-below, back-on, on-back}
+use Rattle.cycle.proofs.Numbers.{following-is, following-below, preceding-below, back-on, on-back}
 use Rattle.holder.specs.declared.Way.{Way}
 use Rattle.holder.specs.declared.Way.the-variants.{Forward, Back}
 use Rattle.holder_walk.specs.Walk.{stepsForward, ringDistance, wayTo}

@@ -11,7 +11,7 @@ use Rattle.basics.proofs.Tests.{below-or-not}
 use Rattle.basics.specs.Bytes.{AreBytes}
 use Rattle.sizes.specs.Sizes.{keyLength, tOf, turn}
 use Rattle.sizes.proofs.Keys.{a-key}
-use Rattle.cycle.proofs.Addends.{following-below, preceding-below}
+use Rattle.cycle.proofs.Numbers.{following-below, preceding-below}
 use Rattle.holder.specs.declared.Holder.{Holder}
 use Rattle.holder.specs.declared.Way.the-variants.{Forward, Back}
 use Rattle.holder.specs.Holder.{holderAt}

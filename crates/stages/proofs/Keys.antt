@@ -2,15 +2,16 @@
 use mathlib.Core.Path.{_≡_, sym, ap, _∙_}
 use mathlib.Core.Bool.{true}
 use mathlib.Core.List.{List, _++_}
-use Prim.Native.Nat.{ℕ, zero, suc, _+_, _*_}
+use Prim.Native.Nat.{ℕ, zero, suc, _+_, _*_, _<_}
 use native.Mathlib.Omega.{arith}
 use native.Mathlib.Numerals.{add-one}
 use lib.ListN.{length, drop}
 use Rattle.stages.specs.Columns.{plus, padded}
-use Rattle.sizes.specs.Sizes.{keyLength, tOf}
+use Rattle.sizes.specs.Sizes.{keyLength, tOf, turn}
 use Rattle.sizes.proofs.Keys.{a-key}
-use Rattle.stages.specs.Stages.{linearStep, constant, stage}
+use Rattle.stages.specs.Stages.{constant, stage, stepConstant, stageAfter}
 use Rattle.stages.proofs.Padded.{length-step, length-padded, next-held}
+use Rattle.stages.proofs.Constants.{inner-step}
 
 -- ---- stages in 24 bytes
 pub length-stage : (t : ℕ) (key : List ℕ) → length key ≡ 3 * (2 * t) → (s : ℕ) → length (stage t key s) ≡ 3 * (2 * t)
@@ -34,12 +35,12 @@ module _ (key : List ℕ) (h : keyLength (length key) ≡ true) where
       ap length e ∙ length-padded (stage (tOf (length key)) key s) (omega arith)
 
   -- the code's next stage is the key's
-  pub advanced : (s : ℕ) (k next : List ℕ) → k ≡ padded (stage (tOf (length key)) key s)
-      → next ≡ linearStep (2 * tOf (length key)) (plus (2 * tOf (length key)) k (constant (tOf (length key)) (s + 1))) ++ drop (6 * tOf (length key)) k
-      → next ≡ padded (stage (tOf (length key)) key (s + 1))
-  unfolding t stage
-  advanced s k next ek en =
+  pub advanced : (s : ℕ) (k next : List ℕ) → s + 1 < turn (tOf (length key)) → k ≡ padded (stage (tOf (length key)) key s)
+      → next ≡ stageAfter (tOf (length key)) (s + 1) k ++ drop (6 * tOf (length key)) k → next ≡ padded (stage (tOf (length key)) key (s + 1))
+  unfolding t stageAfter
+  advanced s k next h ek en =
       en
-      ∙ next-held t (stage t key s) k ek (length-stage t key key-length s) (constant t (s + 1))
-      ∙ ap (λ (m : ℕ). padded (linearStep (2 * t) (plus (2 * t) (stage t key s) (constant t m)))) (add-one s)
+      ∙ next-held t (stage t key s) k ek (length-stage t key key-length s) (stepConstant t (s + 1))
+      ∙ ap (λ (m : ℕ). padded (stageAfter t m (stage t key s))) (add-one s)
+      ∙ ap padded (sym (inner-step t key s (omega arith)))
       ∙ ap (λ (m : ℕ). padded (stage t key m)) (sym (add-one s))

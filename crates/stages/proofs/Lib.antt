@@ -1,3 +1,4 @@
+pub mod Alike
 pub mod Places
 pub mod Columns
 pub mod ColumnRule
@@ -5,6 +6,7 @@ pub mod Steps
 pub mod Written
 pub mod Padded
 pub mod Stages
+pub mod Constants
 pub mod Keys
 pub mod Claims
 pub mod Lemmas

@@ -29,7 +29,7 @@ pub length-padded : (k : List ℕ) → length k ≤ 24 → length (padded k) ≡
 unfolding padded
 length-padded k h = omega (arith, length-append k (replicate (24 - length k) 0), length-replicate {A = ℕ} (24 - length k) 0)
 
-pub length-kept : (m : ℕ) (x k : List ℕ) → length x ≡ m → m ≤ length k → length (x ++ drop m k) ≡ length k
+length-kept : (m : ℕ) (x k : List ℕ) → length x ≡ m → m ≤ length k → length (x ++ drop m k) ≡ length k
 length-kept m x k e h = length-front k x m (e ∙ sym (length-take-le m k h))
 
 -- a stage of 2t columns put in the place of another in 24 bytes

@@ -1,5 +1,5 @@
--- What is claimed of the key schedule. A term of each type stands in proofs/Claims.antt. The period of the linear step and the closing
--- rule are claimed in the crate `period`.
+-- What is claimed of the key schedule. A term of each type stands in proofs/Claims.antt. The period of the linear step and every
+-- step of the turn are claimed in the crate `period`.
 use mathlib.Core.Path.{_≡_}
 use mathlib.Core.List.{List}
 use Prim.Native.Nat.{ℕ}

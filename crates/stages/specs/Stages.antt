@@ -1,9 +1,12 @@
 -- Key stages: document 01, "Key stages"; paper 000, sections 3.5 to 3.8. A key of 6t bytes has 2t columns.
+use mathlib.Core.Bool.{cond, _&&_}
 use mathlib.Core.List.{List}
 use Prim.Native.Nat.{ℕ, zero, suc, _+_, _-_, _*_, _%_}
+use lib.Dec.{ltb, eqb}
 use Rattle.field.specs.Field.{_⊕_, cubeRoot}
 use Rattle.sbox.specs.Sbox.{sbox}
 use Rattle.layers.specs.State.{State, build}
+use Rattle.sizes.specs.Sizes.{turn}
 use Rattle.stages.specs.Columns.{cell, fill, plus, columnRule}
 
 -- one column on, and one column back, around n columns
@@ -52,13 +55,27 @@ unfoldable pub stage : ℕ → List ℕ → ℕ → List ℕ
 stage t key zero = key
 stage t key (suc s) = linearStep (2 * t) (plus (2 * t) (stage t key s) (constant t (suc s)))
 
--- the key of zeros
+-- the key of zeros, and the zero constant
 unfoldable pub zeros : ℕ → List ℕ
 zeros n = fill n (λ i j. 0)
 
 -- the closing sum: what 6t - 1 steps make of an all-zero key
 unfoldable pub closingSum : ℕ → List ℕ
 closingSum t = stage t (zeros (2 * t)) (6 * t - 1)
+
+-- the constant of step s, which leads from stage s - 1 to stage s modulo 6t: constant s for s from 1 to 6t - 1, the closing sum for 6t, and the
+-- zero constant for 0 and above 6t
+unfoldable pub stepConstant : ℕ → ℕ → List ℕ
+stepConstant t s = cond (ltb 0 s && ltb s (turn t)) (constant t s) (cond (eqb s (turn t)) (closingSum t) (zeros (2 * t)))
+
+-- step s forward: the stage after it, where k is the stage before it. Paper 000, section 3.7, adds the closing sum after the linear step; document 01
+-- decides
+unfoldable pub stageAfter : ℕ → ℕ → List ℕ → List ℕ
+stageAfter t s k = linearStep (2 * t) (plus (2 * t) k (stepConstant t s))
+
+-- step s undone: the stage before it, where k is the stage after it
+unfoldable pub stageBefore : ℕ → ℕ → List ℕ → List ℕ
+stageBefore t s k = plus (2 * t) (inverseStep (2 * t) k) (stepConstant t s)
 
 -- row i of a subkey's column, where the stage has the column x y z: the S-box on row 0 only
 abbrev pub subkeyByte : ℕ → ℕ → ℕ → ℕ → ℕ

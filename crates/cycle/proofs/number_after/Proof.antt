@@ -2,7 +2,7 @@
 use mathlib.Core.Path.{sym, _∙_}
 use native.Mathlib.Numerals.{add-one}
 use native.Mathlib.Omega.{arith}
-use Rattle.cycle.proofs.Addends.{following-on, following-last}
+use Rattle.cycle.proofs.Numbers.{following-on, following-last}
 use borrow.Author.Needs.{needs}
 use Rattle.cycle.proofs.number_after.Statement.{statement}
 use Rattle.cycle.proofs.number_after.Tie as tie

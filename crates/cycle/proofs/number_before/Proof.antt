@@ -2,7 +2,7 @@
 use mathlib.Core.Path.{sym, ap, _∙_}
 use Prim.Native.Nat.{ℕ, _-_}
 use native.Mathlib.Omega.{arith}
-use Rattle.cycle.proofs.Addends.{preceding-back, preceding-first}
+use Rattle.cycle.proofs.Numbers.{preceding-back, preceding-first}
 use borrow.Author.Needs.{needs}
 use Rattle.cycle.proofs.number_before.Statement.{statement}
 use Rattle.cycle.proofs.number_before.Tie as tie

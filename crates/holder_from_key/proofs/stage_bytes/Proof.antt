@@ -29,13 +29,13 @@ next-stage-requires c κs =
     let p = l .before .before .before in
     let key = now (p .args .key) in
     let k = a-key (length key) (p .pre .0) in
-    (k .sized, ((omega arith, omega (arith, k .is)), held-length key (p .pre .0) (l .loop .s) (l .loop .k) (l .loop .inv .1)))
+    (k .sized, held-length key (p .pre .0) (l .loop .s) (l .loop .k) (l .loop .inv .1))
 
 loop-again : tie.Need-loop-again Inv-loop μ-loop
 loop-again c =
     let l = c .before .before .before in
     let p = l .before .before .before in
-    (omega arith, advanced (now (p .args .key)) (p .pre .0) (l .loop .s) (l .loop .k) _ (l .loop .inv .1) (c .next-stage .ensures))
+    (omega arith, advanced (now (p .args .key)) (p .pre .0) (l .loop .s) (l .loop .k) _ (omega arith) (l .loop .inv .1) (c .next-stage .ensures))
 
 pub stage-bytes-spec : {M : Type 1} → statement M
 stage-bytes-spec =
