@@ -7,22 +7,41 @@
  * Rules for every call:
  *  - Bytes are lent as a pointer and a length. The pointer is never null, also where the length is 0, as that of an empty payload
  *    is, and points to at least as many bytes as the length says. The library keeps no pointer after the call.
- *  - What a call writes to (out, answers, scratch, the roll that it enters or withdraws on, or the holder that it steps or walks)
- *    overlaps nothing else that is lent to it, and so out and scratch do not overlap each other. What it only reads may overlap.
+ *  - What a call writes to (out, answers, scratch, the roll that it enters, withdraws or changes a right on, or the holder that it
+ *    steps or walks) overlaps nothing else that is lent to it, and so out and scratch do not overlap each other. What it only reads
+ *    may overlap.
  *  - A call takes any lengths and numbers. Where they are wrong, it refuses with a number and writes nothing. Where more than
  *    one reason holds, it gives the first in the order that stands with the call. In one case a refusal writes: gordzila_open_page
  *    clears its scratch where it refuses with 13, or with the 11 that it tries after 13.
  *  - Every call but gordzila_check, gordzila_holder_walk and gordzila_open_page returns 0 where it does not refuse. These three never
- *    return 0: a refusal is 1 to 24, and any other answer 1000 or more; that of gordzila_open_page is 2^63 or more, and takes 64 bits.
+ *    return 0: a refusal is 1 to 25, and any other answer 1000 or more; that of gordzila_open_page is 2^63 or more, and takes 64 bits.
  *    gordzila_check_queue returns 0 whether or not a grant of its queue opens; that stands in answers.
  *  - Where it does not refuse, it writes the bytes that are said below, from the start of out or answers, and no byte after them;
- *    entering and withdrawing write the roll's 400 bytes, steps and walks the holder's 26, sealing and opening a page also clear the
- *    first 576 bytes of scratch.
- *  - A withdrawal is seen only on the roll on which it was made. Hand gordzila_check and gordzila_check_queue the roll as it is now:
- *    on an older copy, or on a roll that starts anew from zeros, grants that were revoked may open.
+ *    entering, withdrawing and changing a right write the roll's bytes, steps and walks the holder's 26, sealing and opening a page
+ *    also clear the first 576 bytes of scratch.
+ *  - A withdrawal or a change of a right is seen only on the roll on which it was made. Hand gordzila_issue, gordzila_check and
+ *    gordzila_check_queue the roll as it is now: on an older copy, or on a roll that starts anew, grants that were revoked may open, and
+ *    contractors who were demoted may overwrite.
  *  - The calls have no state of their own and may be made from any thread. While a call writes to bytes, no other call may have
  *    them lent: rooms or threads that share a roll make their calls on it one after the other.
  *  - Their time depends on the key and the data: they are not made to resist an observer of time.
+ *
+ * Changes in 0.6.0, for hosts that were written for 0.5, in the order in which to make them:
+ *  - Stored rolls. A roll of 0.5 has 400 bytes, the counts. It now has GORDZILA_ROLL_BYTES, and one of 400 is refused with 3. Append
+ *    200 bytes to each that is stored, one for each contractor, contractor 1's first: 2 for those who may overwrite, 1 for all others.
+ *    With 2 for everyone in standing, each grant opens for what it opened for. With 1 for everyone, every grant for overwriting opens
+ *    for reading only, until its contractor is raised with gordzila_change_right or their byte is 2. A host of 0.5 refuses the longer
+ *    roll with 3: hosts that share a roll change over together.
+ *  - The empty roll. It is no longer all zeros: gordzila_empty_roll is new, and writes it. Zeros throughout are also a roll on which
+ *    nobody was ever entered, whose rights of 0 mean reading only. That does no harm, since entering writes the right; but those are not
+ *    the agreed bytes.
+ *  - gordzila_enter takes the contractor's highest right as a fourth argument. With this header a compiler refuses a call with three.
+ *    Objects that were compiled with the header of 0.5, calls without a prototype and bindings of other languages link all the same,
+ *    and the right that they enter with is undefined: they have to be changed and built anew. gordzila_enter may now refuse with 7.
+ *  - Reason 25 is new: the right asked for is above the contractor's highest. gordzila_issue and gordzila_check give it, after all their
+ *    others, and it may be a byte of the answers of gordzila_check_queue. A switch over reasons, or over these bytes, may meet it.
+ *  - gordzila_change_right is new. A withdrawal also sets the highest right to 1. No other call changed its form, and no constant but
+ *    GORDZILA_ROLL_BYTES its number.
  *
  * Changes in 0.5.0, for hosts that were written for 0.4 (nothing changed for hosts in 0.5.1 and 0.5.2):
  *  - gordzila_seal_page and gordzila_open_page are new: they seal up to 492 bytes of a size block in a page of 512, and open it.
@@ -58,7 +77,7 @@ enum {
     /* found in the input */
     GORDZILA_KEY_LENGTH = 1,        /* key not 12, 18 or 24 bytes; two keys for a page that are equal or of unequal lengths */
     GORDZILA_ROUND_COUNT = 2,       /* round count not 10..11, 14..17 or 18..23, by the key's length */
-    GORDZILA_INPUT_LENGTH = 3,      /* block or grant not 12 bytes; roll not 400 bytes; queue of grants over 768 bytes, or no multiple of 12 */
+    GORDZILA_INPUT_LENGTH = 3,      /* block or grant not 12 bytes; roll not 600 bytes; queue of grants over 768 bytes, or no multiple of 12 */
     GORDZILA_OUTPUT_TOO_SHORT = 4,  /* out shorter than what is to be written; answers shorter than the number of grants; scratch under 576 bytes */
     GORDZILA_STAGE_OR_LIST = 5,     /* stage number not below the key's length in bytes; subkey list under 132 bytes, over 288, or no multiple of 12 */
     GORDZILA_CONTRACTOR = 6,        /* contractor outside 1 to 200 */
@@ -74,17 +93,18 @@ enum {
     GORDZILA_IN_STANDING = 21,      /* entering someone in standing */
     GORDZILA_COUNT_SPENT = 22,      /* entering at count 65,534 or 65,535 */
     GORDZILA_OTHER_COUNT = 23,      /* the grant's count differs from the roll's */
-    GORDZILA_BROKEN_HOLDER = 24     /* holder not 26 bytes, or not whole: a wrong key length, a stage number that is not below it, or bytes past it */
+    GORDZILA_BROKEN_HOLDER = 24,    /* holder not 26 bytes, or not whole: a wrong key length, a stage number that is not below it, or bytes past it */
+    GORDZILA_ABOVE_HIGHEST = 25     /* right asked for above the contractor's highest */
 };
 
 /*
- * Rights, as they stand in a grant and as they are asked for. A reading grant opens its size block for reading and not for
- * overwriting; an overwriting grant opens it for both.
+ * Rights, as they stand in a grant, as they are asked for, and as a contractor's highest right is given. A reading grant opens its
+ * size block for reading and not for overwriting; an overwriting grant opens it for both, unless its contractor may only read.
  */
 enum { GORDZILA_READING = 1, GORDZILA_OVERWRITING = 2 };
 
 /* Lengths in bytes. */
-enum { GORDZILA_BLOCK_BYTES = 12, GORDZILA_GRANT_BYTES = 12, GORDZILA_ROLL_BYTES = 400 };
+enum { GORDZILA_BLOCK_BYTES = 12, GORDZILA_GRANT_BYTES = 12, GORDZILA_ROLL_BYTES = 600 };
 enum { GORDZILA_STAGE_BYTES = 24, GORDZILA_SUBKEY_BYTES = 12, GORDZILA_LONGEST_LIST_BYTES = 288 };
 enum { GORDZILA_HOLDER_BYTES = 26 };
 enum { GORDZILA_PAGE_BYTES = 512, GORDZILA_PAYLOAD_BYTES = 492, GORDZILA_SCRATCH_BYTES = 576 };
@@ -93,15 +113,27 @@ enum { GORDZILA_PAGE_BYTES = 512, GORDZILA_PAYLOAD_BYTES = 492, GORDZILA_SCRATCH
 enum { GORDZILA_QUEUE_MOST_GRANTS = 64, GORDZILA_LONGEST_QUEUE_BYTES = 768 };
 
 /*
+ * The roll: GORDZILA_ROLL_BYTES bytes that the host keeps, with an entry for each of the contractors 1 to 200, which is a count and a
+ * highest right. Any such bytes are a roll.
+ *
+ * Bytes 0 to 399 are the counts, two bytes each, big end first. A contractor is in standing exactly when their count is odd and below
+ * 65,535.
+ *
+ * Bytes 400 to 599 are the highest rights, one byte each, so that contractor n has byte 399 + n. 2 means that the contractor may be
+ * issued grants for overwriting and that these overwrite. Every other figure means reading only: 0, 1, 3 and 255 alike. The calls
+ * write 1 and 2, and any other figure stays until a call that does not refuse enters or withdraws that contractor, or changes
+ * their right.
+ */
+
+/*
  * Checks a grant for one size block and one right. A reading grant opens its size block where reading is asked for, an
- * overwriting grant where reading or overwriting is.
+ * overwriting grant where reading is, and where overwriting is if that is its contractor's highest right on the roll.
  *
- * roll: 400 bytes, the counts of contractors 1 to 200, two bytes each, big end first.
- *
- * Returns the number of the first of these reasons that holds: 1, 2, 3 (grant or roll), 7, 8, 9, 10, 20, 23. Otherwise the
+ * Returns the number of the first of these reasons that holds: 1, 2, 3 (grant or roll), 7, 8, 9, 10, 20, 23, 25. Otherwise the
  * grant opens the size block, and the answer is 1,000 times the right asked for plus the contractor: 1001 to 1200 for reading,
  * 2001 to 2200 for overwriting. The right in the answer is the one asked for, and not the grant's: an overwriting grant that is
- * asked for reading answers 1001 to 1200.
+ * asked for reading answers 1001 to 1200. 25 too is about the right asked for: the overwriting grant of a contractor who may only read
+ * opens for reading.
  */
 uint32_t gordzila_check(const uint8_t *key, size_t key_length, uint32_t rounds, const uint8_t *roll, size_t roll_length,
                         const uint8_t *grant, size_t grant_length, uint32_t size_block, uint32_t right);
@@ -122,7 +154,7 @@ static inline uint32_t gordzila_answered_contractor(uint32_t answer) { return go
  * answers is.
  *
  * Otherwise it returns 0, and answers has one byte for each grant, in their order: 0 if the grant opens, else the number with which
- * gordzila_check refuses it, which is 8, 9, 10, 20 or 23. A grant that is refused does not stop those after it. Bytes of answers past
+ * gordzila_check refuses it, which is 8, 9, 10, 20, 23 or 25. A grant that is refused does not stop those after it. Bytes of answers past
  * the number of grants stay. Take every byte but 0 for a refusal: later versions may have more numbers.
  *
  * Without grants it returns 0 and writes nothing, where the other arguments are right: with right 3 it returns 7 all the same. As
@@ -143,19 +175,43 @@ uint32_t gordzila_check_queue(const uint8_t *key, size_t key_length, uint32_t ro
 static inline int gordzila_queue_opens(uint32_t returned, uint8_t byte) { return returned == 0 && byte == 0; }
 
 /*
- * The roll. Each returns 0, or the number of the first reason that holds.
+ * The calls on the roll. Each returns 0, or the number of the first reason that holds. Those that change a contractor's entry leave all
+ * other entries as they are.
  *
- * Enter or withdraw a contractor on the roll's 400 bytes: 1 is added to the contractor's count, and all other counts keep their
- * values. A roll of zeros is one on which nobody was ever entered. A contractor is in standing exactly when their count is odd and
- * below 65,535; from 65,534 on they cannot be entered again. Order: 3, 6, then 21, 22 (enter) or 20 (withdraw).
+ * The empty roll, on which nobody was ever entered: GORDZILA_ROLL_BYTES to out, all counts 0 and all highest rights 1. Order: 4.
  */
-uint32_t gordzila_enter(uint8_t *roll, size_t roll_length, uint32_t contractor);
+uint32_t gordzila_empty_roll(uint8_t *out, size_t out_length);
+
+/*
+ * Enter a contractor who is not in standing: 1 is added to their count, and right, 1 or 2, becomes their highest right. At count 65,534
+ * or 65,535 they cannot be entered again. Order: 3, 6, 7, 21, 22.
+ */
+uint32_t gordzila_enter(uint8_t *roll, size_t roll_length, uint32_t contractor, uint32_t right);
+
+/*
+ * Change the highest right of a contractor in standing to right: to 1, which demotes who had 2, or to 2, which raises. The right that
+ * they have already is taken too. Order: 3, 6, 7, 20.
+ *
+ * A demoted contractor stays in standing. Their grants go on opening for reading, those for overwriting too. Where overwriting is asked
+ * for, these are refused with 25, and so is the issue of such a grant, until the contractor is raised, or withdrawn and entered again
+ * with 2.
+ *
+ * Beware:
+ *  - No count changes, so that a demotion ends no grant. Once the contractor is raised, every grant for overwriting that was issued to
+ *    them in this standing overwrites again, also one from before the demotion. To end these grants, withdraw the contractor and enter
+ *    them again: then no grant that was issued to them before opens, for reading neither, and whoever goes on plotting needs new ones.
+ *  - The change is seen only on the roll on which it was made, as a withdrawal is: a box that checks against an older copy goes on
+ *    overwriting.
+ */
+uint32_t gordzila_change_right(uint8_t *roll, size_t roll_length, uint32_t contractor, uint32_t right);
+
+/* Withdraw a contractor who is in standing: 1 is added to their count, and their highest right becomes 1. Order: 3, 6, 20. */
 uint32_t gordzila_withdraw(uint8_t *roll, size_t roll_length, uint32_t contractor);
 
 /*
- * Issues a grant to a contractor in the standing that the roll has for them: 12 bytes to out. A grant for overwriting also opens its
- * size block for reading, so that nobody needs one of each. Returns 0, or the number of the first reason that holds. Order: 1, 2,
- * 3 (roll), 4, 6, 7, 20.
+ * Issues a grant to a contractor in the standing that the roll has for them, for a right up to their highest: 12 bytes to out. A grant
+ * for overwriting also opens its size block for reading, so that nobody needs one of each. Returns 0, or the number of the first reason
+ * that holds. Order: 1, 2, 3 (roll), 4, 6, 7, 20, 25.
  */
 uint32_t gordzila_issue(const uint8_t *key, size_t key_length, uint32_t rounds, const uint8_t *roll, size_t roll_length,
                         uint32_t contractor, uint32_t size_block, uint32_t right, uint8_t *out, size_t out_length);

@@ -2,13 +2,17 @@
  * Lends every buffer of every call, but of those on a key holder (holder_bounds.c), of the queue (queue_bounds.c) and of sealed pages
  * (page_bounds.c), between two pages that may not be touched: once right after the first, once right before the second (guard.h).
  * Lengths and numbers lie on both sides of each limit; the answer has to be the first reason in the header's order that holds
- * (rules.h), and nothing may change but what a call that does not refuse writes.
+ * (rules.h), and nothing may change but what a call that does not refuse writes. What is written on a roll has to be what the header
+ * says, byte by byte.
  *
  * Of each of 11 keys with each of 13 round counts there are 25 lengths of input and output for 2 directions, 3 outputs for 2 lists, and
- * 100 issues (5 rights, 4 rolls, 5 outputs) with 5 checks each: 143 * 656. Of the 6 of these pairs that are right there are 5 grants
- * that are enciphered here, each checked for 5 rights and 2 size blocks on 3 rolls: 6 * 5 * 31. Of each key there are 10 stages in
- * 5 outputs, for 2 calls: 1,100. The engine has 11 * 5 * 5 lengths, the roll 4 * 6 for 2 calls. On both sides,
- * 2 * (93,808 + 930 + 1,100 + 275 + 48) are 192,322 calls. Prints how many did what they have to; the status is 1 where one did not.
+ * 175 issues (5 rights, 7 rolls, 5 outputs) with 5 checks each: 143 * 1,106. Of the 6 of these pairs that are right there are, for each
+ * of 3 contractors, 5 grants that are enciphered here, each checked for 5 rights and 2 size blocks on rolls with 3 counts and 5 highest
+ * rights, and to each of 6 contractors issues for 5 rights with 2 counts and 5 highest rights: 6 * (3 * 5 * 151 + 300). Of each key there
+ * are 10 stages in 5 outputs, for 2 calls: 1,100. The engine has 11 * 5 * 5 lengths. On rolls of 7 lengths, 6 contractors with 7 counts
+ * and 5 highest rights are withdrawn, and entered and changed with 5 rights: 1,470 * 11. The empty roll has 7 outputs. On both sides,
+ * 2 * (158,158 + 15,390 + 1,100 + 275 + 16,170 + 7) are 382,200 calls. Prints how many did what they have to; the status is 1 where one
+ * did not.
  */
 #include "guard.h"
 #include "rules.h"
@@ -16,24 +20,30 @@
 static const size_t key_lengths[] = {0, 1, 11, 12, 13, 17, 18, 19, 23, 24, 25};
 static const uint32_t round_counts[] = {0, 9, 10, 11, 12, 13, 14, 17, 18, 23, 24, 266, 0xffffffffu};
 static const size_t small_lengths[] = {0, 11, 12, 13, 24};
-static const size_t roll_lengths[] = {0, 399, 400, 401};
+static const size_t roll_lengths[] = {0, 399, 400, 401, 599, 600, 601};
 static const size_t list_lengths[] = {0, 12, 131, 132, 133, 144, 276, 287, 288, 289, 300};
 static const uint32_t contractors[] = {0, 1, 7, 200, 201, 0xffffffffu};
+static const uint8_t on_roll[] = {1, 7, 200};
+static const unsigned counts[] = {0, 1, 2, 65532, 65533, 65534, 65535};
+static const uint8_t highest_rights[] = {0, 1, 2, 3, 255};
 static const uint32_t rights[] = {0, 1, 2, 3, 258};
 static const uint8_t rights_in_grants[] = {0, 1, 2, 3, 255};
 static const uint32_t stages[] = {0, 1, 11, 12, 17, 18, 23, 24, 256, 0xffffffffu};
 
 static struct lent key, input, roll, out;
 
-/* A roll on which contractor 7 has a count and all others 0, cut or made longer. With count 1 or 3 contractor 7 is in standing. */
-static void lend_count(uint8_t count, size_t length) {
+/*
+ * A roll, cut or made longer, on which a contractor has an entry. All others have count 0 and a highest right of the other meaning, so
+ * that a right that is looked for in another place is found out.
+ */
+static void lend_entry(uint32_t contractor, struct entry e, size_t length) {
     uint8_t bytes[GORDZILA_ROLL_BYTES + 1];
-    memset(bytes, 0, sizeof bytes);
-    bytes[13] = count;
+    fill_roll(bytes, sizeof bytes, e.highest == 2 ? 1 : 2);
+    if (is_contractor(contractor)) {
+        put_entry(bytes, contractor, e);
+    }
     lend(&roll, bytes, length);
 }
-
-static void lend_roll(size_t length) { lend_count(1, length); }
 
 static void cipher(uint32_t rounds) {
     for (size_t i = 0; i < COUNT(small_lengths); i++) {
@@ -64,20 +74,21 @@ static void prepare(uint32_t rounds) {
     }
 }
 
-/* One check, for contractor 7. Where no reason holds, the answer has the right asked for, whichever the grant has. */
-static void check(uint32_t rounds, uint32_t block, uint32_t asked, uint32_t expected) {
+/* One check. Where no reason holds, the answer has the contractor and the right asked for, whichever the grant has. */
+static void check(uint32_t rounds, uint32_t contractor, uint32_t block, uint32_t asked, uint32_t expected) {
     judge("check",
           gordzila_check(key.at, key.length, rounds, roll.at, roll.length, input.at, input.length, block, asked),
-          expected == 0 ? 1000 * asked + 7 : expected, NULL, 0);
+          expected == 0 ? 1000 * asked + contractor : expected, NULL, 0);
 }
 
 /* Checks the bytes that an issue for a right has left, for each right. Where the right was none, they are no grant. */
 static void check_issued(uint32_t rounds, uint32_t issued) {
-    uint32_t start = then(of_rounds(key.length, rounds), roll.length != 400 || input.length != 12, GORDZILA_INPUT_LENGTH);
+    int fits = roll.length == GORDZILA_ROLL_BYTES && input.length == 12;
+    uint32_t start = then(of_rounds(key.length, rounds), !fits, GORDZILA_INPUT_LENGTH);
     for (size_t i = 0; i < COUNT(rights); i++) {
         uint32_t expected = then(start, !is_right(rights[i]), GORDZILA_RIGHT);
         expected = then(expected, !is_right(issued), GORDZILA_NOT_A_GRANT);
-        check(rounds, 300, rights[i], then(expected, falls_short(issued, rights[i]), GORDZILA_OTHER_RIGHT));
+        check(rounds, 7, 300, rights[i], then(expected, falls_short(issued, rights[i]), GORDZILA_OTHER_RIGHT));
     }
 }
 
@@ -85,10 +96,11 @@ static void check_issued(uint32_t rounds, uint32_t issued) {
 static void grant(uint32_t rounds, uint32_t right) {
     for (size_t r = 0; r < COUNT(roll_lengths); r++) {
         for (size_t o = 0; o < COUNT(small_lengths); o++) {
-            uint32_t expected = then(of_rounds(key.length, rounds), roll_lengths[r] != 400, GORDZILA_INPUT_LENGTH);
+            int fits = roll_lengths[r] == GORDZILA_ROLL_BYTES;
+            uint32_t expected = then(of_rounds(key.length, rounds), !fits, GORDZILA_INPUT_LENGTH);
             expected = then(expected, small_lengths[o] < 12, GORDZILA_OUTPUT_TOO_SHORT);
             uint8_t given[512] = {0};
-            lend_roll(roll_lengths[r]);
+            lend_entry(7, (struct entry){1, 2}, roll_lengths[r]);
             lend_any(&out, small_lengths[o]);
             judge("issue",
                   gordzila_issue(key.at, key.length, rounds, roll.at, roll.length, 7, 300, right, out.at, out.length),
@@ -101,9 +113,9 @@ static void grant(uint32_t rounds, uint32_t right) {
     }
 }
 
-/* A grant to contractor 7 for size block 300, of count 1, with any byte as its right: plain bytes, enciphered. */
-static void lend_grant(uint32_t rounds, uint8_t right) {
-    const uint8_t plain[12] = {0, 7, 0, 1, 0, 0, 300 / 256, 300 % 256, right, 0x47, 0x52, 0x44};
+/* A grant to a contractor for size block 300, of count 1, with any byte as its right: plain bytes, enciphered. */
+static void lend_grant(uint32_t rounds, uint8_t contractor, uint8_t right) {
+    const uint8_t plain[12] = {0, contractor, 0, 1, 0, 0, 300 / 256, 300 % 256, right, 0x47, 0x52, 0x44};
     uint8_t given[12];
     lend(&input, plain, sizeof plain);
     lend_any(&out, sizeof given);
@@ -113,26 +125,57 @@ static void lend_grant(uint32_t rounds, uint8_t right) {
     lend_any(&out, 0);
 }
 
-/* Checks a grant for a right where it may be for another block, or its contractor withdrawn (2) or in another standing (3). */
-static void check_around(uint32_t rounds, uint8_t in_grant, uint32_t asked) {
-    for (uint32_t block = 300; block <= 301; block++) {
-        for (uint8_t count = 1; count <= 3; count++) {
-            uint32_t expected = then(!is_right(asked) ? GORDZILA_RIGHT : 0, !is_right(in_grant), GORDZILA_NOT_A_GRANT);
-            expected = then(expected, block != 300, GORDZILA_OTHER_BLOCK);
-            expected = then(expected, falls_short(in_grant, asked), GORDZILA_OTHER_RIGHT);
-            expected = then(expected, count == 2, GORDZILA_NOT_IN_STANDING);
-            lend_count(count, GORDZILA_ROLL_BYTES);
-            check(rounds, block, asked, then(expected, count == 3, GORDZILA_OTHER_COUNT));
+/* Checks a grant for a right and a size block, where its contractor may be withdrawn (2) or in another standing (3). */
+static void check_around(uint32_t rounds, uint32_t contractor, uint8_t in_grant, uint32_t block, uint32_t asked) {
+    uint32_t start = then(!is_right(asked) ? GORDZILA_RIGHT : 0, !is_right(in_grant), GORDZILA_NOT_A_GRANT);
+    start = then(start, block != 300, GORDZILA_OTHER_BLOCK);
+    start = then(start, falls_short(in_grant, asked), GORDZILA_OTHER_RIGHT);
+    for (unsigned count = 1; count <= 3; count++) {
+        for (size_t h = 0; h < COUNT(highest_rights); h++) {
+            struct entry e = {count, highest_rights[h]};
+            uint32_t expected = then(start, count == 2, GORDZILA_NOT_IN_STANDING);
+            expected = then(expected, count == 3, GORDZILA_OTHER_COUNT);
+            lend_entry(contractor, e, GORDZILA_ROLL_BYTES);
+            check(rounds, contractor, block, asked, then(expected, is_above(asked, e), GORDZILA_ABOVE_HIGHEST));
         }
     }
 }
 
 /* Each right in a grant, and each right asked for. */
-static void rights_asked(uint32_t rounds) {
+static void rights_asked(uint32_t rounds, uint8_t contractor) {
     for (size_t g = 0; g < COUNT(rights_in_grants); g++) {
-        lend_grant(rounds, rights_in_grants[g]);
+        lend_grant(rounds, contractor, rights_in_grants[g]);
         for (size_t a = 0; a < COUNT(rights); a++) {
-            check_around(rounds, rights_in_grants[g], rights[a]);
+            check_around(rounds, contractor, rights_in_grants[g], 300, rights[a]);
+            check_around(rounds, contractor, rights_in_grants[g], 301, rights[a]);
+        }
+    }
+}
+
+/* Issues for a right, to a contractor who is in standing (1) or not (2). */
+static void issue_around(uint32_t rounds, uint32_t contractor, uint32_t right) {
+    uint32_t start = then(!is_contractor(contractor) ? GORDZILA_CONTRACTOR : 0, !is_right(right), GORDZILA_RIGHT);
+    for (unsigned count = 1; count <= 2; count++) {
+        for (size_t h = 0; h < COUNT(highest_rights); h++) {
+            struct entry e = {count, highest_rights[h]};
+            uint32_t expected = then(start, count == 2, GORDZILA_NOT_IN_STANDING);
+            lend_entry(contractor, e, GORDZILA_ROLL_BYTES);
+            lend_any(&out, 13);
+            judge("issue",
+                  gordzila_issue(key.at, key.length, rounds, roll.at, roll.length, contractor, 300, right, out.at, out.length),
+                  then(expected, is_above(right, e), GORDZILA_ABOVE_HIGHEST), &out, 12);
+        }
+    }
+}
+
+/* What a roll's highest rights let open and be issued. */
+static void highest(uint32_t rounds) {
+    for (size_t c = 0; c < COUNT(on_roll); c++) {
+        rights_asked(rounds, on_roll[c]);
+    }
+    for (size_t c = 0; c < COUNT(contractors); c++) {
+        for (size_t i = 0; i < COUNT(rights); i++) {
+            issue_around(rounds, contractors[c], rights[i]);
         }
     }
 }
@@ -159,7 +202,7 @@ static void with_keys(void) {
                 grant(round_counts[r], rights[i]);
             }
             if (of_rounds(key.length, round_counts[r]) == 0) {
-                rights_asked(round_counts[r]);
+                highest(round_counts[r]);
             }
         }
         for (size_t n = 0; n < COUNT(stages); n++) {
@@ -185,17 +228,73 @@ static void engine(void) {
     }
 }
 
-static void rolls(void) {
+/* A roll, cut or made longer, on which a contractor has an entry and all others have any bytes. */
+static void lend_among_others(uint32_t contractor, struct entry e, size_t length) {
+    uint8_t bytes[GORDZILA_ROLL_BYTES + 1];
+    for (size_t i = 0; i < sizeof bytes; i++) {
+        bytes[i] = (uint8_t)(37 * i + 11);
+    }
+    if (is_contractor(contractor)) {
+        put_entry(bytes, contractor, e);
+    }
+    lend(&roll, bytes, length);
+}
+
+/* A call on the roll answered. Where it does not refuse, it leaves the contractor this entry; every other byte stays. */
+static void judge_entry(const char *call, uint32_t got, uint32_t expected, uint32_t contractor, struct entry left) {
+    uint8_t bytes[GORDZILA_ROLL_BYTES + 1];
+    memcpy(bytes, roll.before, roll.length);
+    if (expected == 0) {
+        put_entry(bytes, contractor, left);
+    }
+    int wrong = memcmp(roll.at, bytes, roll.length) != 0;
+    count(call, got, expected, wrong || changed_beside(got, &roll, GORDZILA_ROLL_BYTES));
+}
+
+/* Each call on the roll, for a contractor who has an entry. */
+static void entries(size_t length, uint32_t c, struct entry e) {
+    uint32_t start = length != GORDZILA_ROLL_BYTES ? GORDZILA_INPUT_LENGTH : 0;
+    start = then(start, !is_contractor(c), GORDZILA_CONTRACTOR);
+    lend_among_others(c, e, length);
+    judge_entry("withdraw", gordzila_withdraw(roll.at, roll.length, c), then(start, !in_standing(e), GORDZILA_NOT_IN_STANDING), c,
+                (struct entry){e.count + 1, 1});
+    for (size_t i = 0; i < COUNT(rights); i++) {
+        uint32_t expected = then(start, !is_right(rights[i]), GORDZILA_RIGHT);
+        uint32_t entering = then(expected, in_standing(e), GORDZILA_IN_STANDING);
+        uint8_t right = (uint8_t)rights[i];
+        lend_among_others(c, e, length);
+        judge_entry("enter", gordzila_enter(roll.at, roll.length, c, rights[i]),
+                    then(entering, e.count >= 65534, GORDZILA_COUNT_SPENT), c, (struct entry){e.count + 1, right});
+        lend_among_others(c, e, length);
+        judge_entry("change_right", gordzila_change_right(roll.at, roll.length, c, rights[i]),
+                    then(expected, !in_standing(e), GORDZILA_NOT_IN_STANDING), c, (struct entry){e.count, right});
+    }
+}
+
+static void rolls(size_t length, uint32_t contractor) {
+    for (size_t n = 0; n < COUNT(counts); n++) {
+        for (size_t h = 0; h < COUNT(highest_rights); h++) {
+            entries(length, contractor, (struct entry){counts[n], highest_rights[h]});
+        }
+    }
+}
+
+static void empty_roll(size_t length) {
+    uint8_t bytes[GORDZILA_ROLL_BYTES];
+    fill_roll(bytes, sizeof bytes, 1);
+    lend_any(&out, length);
+    uint32_t got = gordzila_empty_roll(out.at, out.length);
+    int wrong = length >= sizeof bytes && memcmp(out.at, bytes, sizeof bytes) != 0;
+    count("empty_roll", got, length < sizeof bytes ? GORDZILA_OUTPUT_TOO_SHORT : 0,
+          wrong || changed_beside(got, &out, sizeof bytes));
+}
+
+static void on_rolls(void) {
     for (size_t r = 0; r < COUNT(roll_lengths); r++) {
         for (size_t i = 0; i < COUNT(contractors); i++) {
-            uint32_t c = contractors[i];
-            uint32_t expected = then(roll_lengths[r] != 400 ? GORDZILA_INPUT_LENGTH : 0, c < 1 || c > 200, GORDZILA_CONTRACTOR);
-            lend_roll(roll_lengths[r]);
-            judge("enter", gordzila_enter(roll.at, roll.length, c), then(expected, c == 7, GORDZILA_IN_STANDING), &roll, 400);
-            lend_roll(roll_lengths[r]);
-            judge("withdraw", gordzila_withdraw(roll.at, roll.length, c), then(expected, c != 7, GORDZILA_NOT_IN_STANDING), &roll,
-                  400);
+            rolls(roll_lengths[r], contractors[i]);
         }
+        empty_roll(roll_lengths[r]);
     }
 }
 
@@ -207,7 +306,7 @@ int main(void) {
     for (at_the_end = 0; at_the_end <= 1; at_the_end++) {
         with_keys();
         engine();
-        rolls();
+        on_rolls();
     }
     return told("calls");
 }

@@ -1,32 +1,92 @@
 /*
- * Replays the lives of grants that the independent program prints (reference/README.md, `grants`) through the C calls of the check and
- * of the queue: standard input has its lines. Each lent buffer ends where a page that may not be touched begins (guard.h).
+ * Replays the lives of grants that the independent program prints (reference/README.md, `grants`) through the C calls on the roll, of the
+ * issue, of the check and of the queue: standard input has its lines. Each lent buffer ends where a page that may not be touched begins
+ * (guard.h).
  *
- * A life has 7 checks, 12 of damaged grants, and 6 here of wrong lengths and of a wrong right. The 19 that the independent program has
- * are also made in a queue. Of 48 lives, 48 * (25 + 19) are 2,112. Prints how many agreed; the status is 1 where one did not.
+ * A life starts with an empty roll, and has 3 entries, 6 changes of the right, 2 withdrawals and 6 issues; 15 checks, 12 of damaged
+ * grants, and 7 here of wrong lengths and of a wrong right. The 27 that the independent program has are also made in a queue. Of 48 lives,
+ * 48 * (1 + 17 + 34 + 27) are 3,792. Prints how many agreed; the status is 1 where one did not.
  */
 #include "guard.h"
+#include "rules.h"
 
-/* What a life is about, and what it has come to. */
+enum { ISSUES = 6, CHECKS = 15 };
+
+/* The grants that are checked, by the number of their issue in the life. */
+enum { A = 1, C = 4, B = 5 };
+
+/* What a life is about, and what it has come to: its contractor's entry on the roll, and the grants, where an issue gave one. */
 struct life {
     uint8_t key[24];
     size_t key_length;
-    unsigned rounds, contractor, block, right, count;
-    uint8_t grants[2][12];
-    int issued;
+    unsigned rounds, contractor, block, right;
+    struct entry entry;
+    uint8_t grants[ISSUES][12];
+    int given[ISSUES];
+    int issues;
     int checks;
 };
 
-static struct lent key, roll, grant, answers;
+static struct lent key, roll, grant, out;
 
-/* Lends the key, and the roll as it is now, cut or made longer. */
+/* The roll as it is now, cut or made longer. */
+static void fill(const struct life *l, uint8_t *bytes, size_t length) {
+    fill_roll(bytes, length, 1);
+    put_entry(bytes, l->contractor, l->entry);
+}
+
 static void lend_roll(const struct life *l, size_t roll_length) {
-    uint8_t counts[GORDZILA_ROLL_BYTES + 1];
-    memset(counts, 0, sizeof counts);
-    counts[2 * (l->contractor - 1)] = (uint8_t)(l->count / 256);
-    counts[2 * (l->contractor - 1) + 1] = (uint8_t)(l->count % 256);
+    uint8_t bytes[GORDZILA_ROLL_BYTES + 1];
+    fill(l, bytes, sizeof bytes);
     lend(&key, l->key, l->key_length);
-    lend(&roll, counts, roll_length);
+    lend(&roll, bytes, roll_length);
+}
+
+/* A call on the roll has to give this answer, and to leave the contractor this entry if that is 0. */
+static void expect_left(struct life *l, const char *call, uint32_t got, unsigned answer, struct entry left) {
+    uint8_t bytes[GORDZILA_ROLL_BYTES];
+    l->entry = answer == 0 ? left : l->entry;
+    fill(l, bytes, sizeof bytes);
+    count(call, got, answer,
+          memcmp(roll.at, bytes, sizeof bytes) != 0 || changed_beside(got, &roll, GORDZILA_ROLL_BYTES));
+}
+
+static void start(struct life *l) {
+    l->issues = 0;
+    l->checks = 0;
+    lend(&key, l->key, l->key_length);
+    lend_any(&roll, GORDZILA_ROLL_BYTES);
+    expect_left(l, "empty_roll", gordzila_empty_roll(roll.at, roll.length), 0, (struct entry){0, 1});
+}
+
+static void enter(struct life *l, unsigned highest, unsigned answer) {
+    lend_roll(l, GORDZILA_ROLL_BYTES);
+    expect_left(l, "enter", gordzila_enter(roll.at, roll.length, l->contractor, highest), answer,
+                (struct entry){l->entry.count + 1, (uint8_t)highest});
+}
+
+static void change_right(struct life *l, unsigned highest, unsigned answer) {
+    lend_roll(l, GORDZILA_ROLL_BYTES);
+    expect_left(l, "change_right", gordzila_change_right(roll.at, roll.length, l->contractor, highest), answer,
+                (struct entry){l->entry.count, (uint8_t)highest});
+}
+
+static void withdraw(struct life *l, unsigned answer) {
+    lend_roll(l, GORDZILA_ROLL_BYTES);
+    expect_left(l, "withdraw", gordzila_withdraw(roll.at, roll.length, l->contractor), answer,
+                (struct entry){l->entry.count + 1, 1});
+}
+
+/* An issue has to give this answer, and the grant with these digits if that is 0. */
+static void issue(struct life *l, unsigned right, unsigned answer, const char *hex) {
+    int i = l->issues++ % ISSUES;
+    l->given[i] = answer == 0;
+    from_hex(hex, l->grants[i], 12);
+    lend_roll(l, GORDZILA_ROLL_BYTES);
+    lend_any(&out, 13);
+    uint32_t got = gordzila_issue(key.at, key.length, l->rounds, roll.at, roll.length, l->contractor, l->block, right, out.at,
+                                  out.length);
+    count("issue", got, answer, changed_beside(got, &out, 12) || (answer == 0 && memcmp(out.at, l->grants[i], 12) != 0));
 }
 
 /* What a check answers of bytes as the grant. */
@@ -50,53 +110,57 @@ static uint8_t verdict(uint32_t answer) { return (uint8_t)(gordzila_opens(answer
  * the others have those for what single checks answer now.
  */
 static void expect_queued(const struct life *l, const uint8_t *bytes, unsigned block, unsigned right, unsigned answer) {
-    uint8_t grants[COUNT(l->grants) + 1][12];
-    uint8_t verdicts[COUNT(l->grants) + 1];
-    size_t issued = l->issued < 2 ? (size_t)l->issued : 2;
+    uint8_t grants[ISSUES + 1][12];
+    uint8_t verdicts[ISSUES + 1];
+    size_t n = 0;
     lend_roll(l, GORDZILA_ROLL_BYTES);
-    for (size_t i = 0; i < issued; i++) {
-        memcpy(grants[i], l->grants[i], 12);
-        verdicts[i] = verdict(checked(l, grants[i], 12, block, right));
+    for (int i = 0; i < l->issues && i < ISSUES; i++) {
+        if (l->given[i]) {
+            memcpy(grants[n], l->grants[i], 12);
+            verdicts[n] = verdict(checked(l, grants[n], 12, block, right));
+            n++;
+        }
     }
-    memcpy(grants[issued], bytes, 12);
-    verdicts[issued] = verdict(answer);
-    lend(&grant, grants[0], 12 * (issued + 1));
-    lend_any(&answers, issued + 3);
+    memcpy(grants[n], bytes, 12);
+    verdicts[n] = verdict(answer);
+    n++;
+    lend(&grant, grants[0], 12 * n);
+    lend_any(&out, n + 2);
     uint32_t got = gordzila_check_queue(key.at, key.length, l->rounds, roll.at, roll.length, grant.at, grant.length, block, right,
-                                        answers.at, answers.length);
-    count("queue", got, 0, changed_beside(got, &answers, issued + 1) || memcmp(answers.at, verdicts, issued + 1) != 0);
+                                        out.at, out.length);
+    count("queue", got, 0, changed_beside(got, &out, n) || memcmp(out.at, verdicts, n) != 0);
 }
 
-/* The checks of a life, in their order: which grant, for which block and right. */
-static void check(struct life *l, unsigned answer) {
-    static const int second[] = {0, 0, 0, 0, 0, 1, 0};
+/* The checks of a life, in their order: which grant, and for which block. The second is for the next one. */
+static void check(struct life *l, unsigned right, unsigned answer) {
+    static const int checked_grants[CHECKS] = {A, A, A, A, A, A, C, C, C, A, A, C, B, A, B};
     int i = l->checks++;
     unsigned block = i == 1 ? (l->block + 1u) & 0xffffffffu : l->block;
-    unsigned right = i == 2 ? 3 - l->right : l->right;
-    if (i < 7) {
-        expect(l, l->grants[second[i]], 12, 400, block, right, answer);
-        expect_queued(l, l->grants[second[i]], block, right, answer);
+    if (i < CHECKS) {
+        expect(l, l->grants[checked_grants[i]], 12, GORDZILA_ROLL_BYTES, block, right, answer);
+        expect_queued(l, l->grants[checked_grants[i]], block, right, answer);
     }
 }
 
-/* Lengths that are wrong by one: 3, whatever else holds of grant and roll. */
+/* Lengths that are wrong, by one or as they were before version 0.6: 3, whatever else holds of grant and roll. */
 static void short_and_long(const struct life *l) {
+    static const size_t wrong_rolls[] = {0, 400, GORDZILA_ROLL_BYTES - 1, GORDZILA_ROLL_BYTES + 1};
     uint8_t bytes[13];
-    memcpy(bytes, l->grants[1], 12);
+    memcpy(bytes, l->grants[B], 12);
     bytes[12] = 0;
-    expect(l, bytes, 11, 400, l->block, l->right, GORDZILA_INPUT_LENGTH);
-    expect(l, bytes, 13, 400, l->block, l->right, GORDZILA_INPUT_LENGTH);
-    expect(l, bytes, 12, 399, l->block, l->right, GORDZILA_INPUT_LENGTH);
-    expect(l, bytes, 12, 401, l->block, l->right, GORDZILA_INPUT_LENGTH);
-    expect(l, bytes, 12, 0, l->block, l->right, GORDZILA_INPUT_LENGTH);
-    expect(l, bytes, 12, 400, l->block, 257, GORDZILA_RIGHT);
+    expect(l, bytes, 11, GORDZILA_ROLL_BYTES, l->block, l->right, GORDZILA_INPUT_LENGTH);
+    expect(l, bytes, 13, GORDZILA_ROLL_BYTES, l->block, l->right, GORDZILA_INPUT_LENGTH);
+    for (size_t i = 0; i < COUNT(wrong_rolls); i++) {
+        expect(l, bytes, 12, wrong_rolls[i], l->block, l->right, GORDZILA_INPUT_LENGTH);
+    }
+    expect(l, bytes, 12, GORDZILA_ROLL_BYTES, l->block, 257, GORDZILA_RIGHT);
 }
 
 static void damaged(const struct life *l, unsigned at, unsigned answer) {
     uint8_t bytes[12];
-    memcpy(bytes, l->grants[1], 12);
+    memcpy(bytes, l->grants[B], 12);
     bytes[at % 12] ^= 1;
-    expect(l, bytes, 12, 400, l->block, l->right, answer);
+    expect(l, bytes, 12, GORDZILA_ROLL_BYTES, l->block, l->right, answer);
     expect_queued(l, bytes, l->block, l->right, answer);
     if (at == 11) {
         short_and_long(l);
@@ -104,19 +168,21 @@ static void damaged(const struct life *l, unsigned at, unsigned answer) {
 }
 
 static void line(struct life *l, const char *text) {
-    char hex[64];
-    unsigned n, contractor, right, at;
+    char hex[64] = "";
+    unsigned asked, n, contractor, right, at;
     if (sscanf(text, "life %63s %u %u %u %u", hex, &l->rounds, &l->contractor, &l->block, &l->right) == 5) {
         l->key_length = from_hex(hex, l->key, sizeof l->key);
-        l->count = 0;
-        l->issued = 0;
-        l->checks = 0;
-    } else if (sscanf(text, "issue 0 %63s", hex) == 1) {
-        from_hex(hex, l->grants[l->issued++ % 2], 12);
-    } else if (sscanf(text, "enter %u", &n) == 1 || sscanf(text, "withdraw %u", &n) == 1) {
-        l->count += n == 0;
-    } else if (sscanf(text, "check %u %u %u", &n, &contractor, &right) == 3) {
-        check(l, n == 0 ? 1000 * right + contractor : n);
+        start(l);
+    } else if (sscanf(text, "enter %u %u", &asked, &n) == 2) {
+        enter(l, asked, n);
+    } else if (sscanf(text, "right %u %u", &asked, &n) == 2) {
+        change_right(l, asked, n);
+    } else if (sscanf(text, "withdraw %u", &n) == 1) {
+        withdraw(l, n);
+    } else if (sscanf(text, "issue %u %u %63s", &asked, &n, hex) >= 2) {
+        issue(l, asked, n, hex);
+    } else if (sscanf(text, "check %u %u %u %u", &asked, &n, &contractor, &right) == 4) {
+        check(l, asked, n == 0 ? 1000 * right + contractor : n);
     } else if (sscanf(text, "damaged %u %u %u %u", &at, &n, &contractor, &right) == 4) {
         damaged(l, at, n == 0 ? 1000 * right + contractor : n);
     }
@@ -129,9 +195,9 @@ int main(void) {
     make_room(&key);
     make_room(&roll);
     make_room(&grant);
-    make_room(&answers);
+    make_room(&out);
     while (fgets(text, sizeof text, stdin) != NULL) {
         line(&life, text);
     }
-    return told("checks and queues");
+    return told("calls");
 }

@@ -1,9 +1,10 @@
 /*
  * A plotter's day and the next morning, in small. The store enters a contractor and issues an overwriting grant; a plotter box caches it
- * and checks it against the roll as it is now: before it looks at the size block, and before it overwrites it. The contractor is
- * withdrawn, and the cached grant stops opening, also after a new standing. With a reading grant the contractor may then look, but not
- * overwrite. Next morning the box checks its pile of cached grants in one call. Once a grant opens the size block for overwriting, a page
- * of it is sealed; once one opens it for reading, the page is opened. Prints a line for each step.
+ * and checks it against the roll as it is now: before it looks at the size block, and before it overwrites it. The contractor is demoted:
+ * they may go on looking, and overwrite again with the same grant once they are raised. The contractor is withdrawn, and the cached grant
+ * stops opening, also after a new standing. With a reading grant the contractor may then look, but not overwrite. Next morning the box
+ * checks its pile of cached grants in one call. Once a grant opens the size block for overwriting, a page of it is sealed; once one opens
+ * it for reading, the page is opened. Prints a line for each step.
  */
 #include <stdio.h>
 #include <string.h>
@@ -40,19 +41,44 @@ static const char *reason(uint32_t number) {
         return "contractor's number is used up";
     case GORDZILA_OTHER_COUNT:
         return "grant from an earlier standing";
+    case GORDZILA_ABOVE_HIGHEST:
+        return "contractor may only read";
     default:
         return "the request is wrong";
     }
 }
 
-/* What a call on the roll or an issue answered. */
-static void done(const char *what, uint32_t contractor, uint32_t number) {
-    printf("%s contractor %u: ", what, (unsigned)contractor);
+/* What a call on the roll, an issue or the sealing of a page answered. */
+static void done(uint32_t number) {
     if (number == 0) {
         printf("done\n");
     } else {
         printf("refused with %u, %s\n", (unsigned)number, reason(number));
     }
+}
+
+static const char *name(uint32_t right) { return right == GORDZILA_READING ? "reading" : "overwriting"; }
+
+static void enter(uint8_t roll[GORDZILA_ROLL_BYTES], uint32_t contractor, uint32_t highest) {
+    printf("enter contractor %u for %s: ", (unsigned)contractor, name(highest));
+    done(gordzila_enter(roll, GORDZILA_ROLL_BYTES, contractor, highest));
+}
+
+static void change_right(uint8_t roll[GORDZILA_ROLL_BYTES], uint32_t contractor, uint32_t highest) {
+    printf("%s contractor %u to %s: ", highest == GORDZILA_READING ? "demote" : "raise", (unsigned)contractor, name(highest));
+    done(gordzila_change_right(roll, GORDZILA_ROLL_BYTES, contractor, highest));
+}
+
+static void withdraw(uint8_t roll[GORDZILA_ROLL_BYTES], uint32_t contractor) {
+    printf("withdraw contractor %u: ", (unsigned)contractor);
+    done(gordzila_withdraw(roll, GORDZILA_ROLL_BYTES, contractor));
+}
+
+/* A grant for size block 300. Where it is refused, the bytes for it stay as they were. */
+static void issue(const uint8_t roll[GORDZILA_ROLL_BYTES], uint32_t contractor, uint32_t right,
+                  uint8_t grant[GORDZILA_GRANT_BYTES]) {
+    printf("issue %s %s grant to contractor %u: ", right == GORDZILA_READING ? "a" : "an", name(right), (unsigned)contractor);
+    done(gordzila_issue(key, sizeof key, rounds, roll, GORDZILA_ROLL_BYTES, contractor, 300, right, grant, GORDZILA_GRANT_BYTES));
 }
 
 static const char *verb(uint32_t right) { return right == GORDZILA_READING ? "read" : "overwrite"; }
@@ -115,11 +141,7 @@ static void seal(uint8_t page[GORDZILA_PAGE_BYTES], uint32_t size_block, uint16_
                                           (const uint8_t *)pattern, strlen(pattern), scratch, sizeof scratch, page,
                                           GORDZILA_PAGE_BYTES);
     printf("seal page %u of size block %u: ", (unsigned)number, (unsigned)size_block);
-    if (refusal == 0) {
-        printf("done\n");
-    } else {
-        printf("refused with %u, %s\n", (unsigned)refusal, reason(refusal));
-    }
+    done(refusal);
 }
 
 /* A page that opens says which one it is. Only the box knows which one it wanted, and has to compare. */
@@ -140,25 +162,34 @@ static void look(const uint8_t page[GORDZILA_PAGE_BYTES], uint32_t size_block, u
     }
 }
 
+/* A demotion is seen by the next check, and ends no grant: the one that was cached overwrites again once the contractor is raised. */
+static void demotion(uint8_t roll[GORDZILA_ROLL_BYTES], const uint8_t cached[GORDZILA_GRANT_BYTES]) {
+    uint8_t grant[GORDZILA_GRANT_BYTES] = {0};
+    change_right(roll, 7, GORDZILA_READING);
+    may(GORDZILA_READING, roll, cached, 300);
+    may(GORDZILA_OVERWRITING, roll, cached, 300);
+    issue(roll, 7, GORDZILA_OVERWRITING, grant);
+    change_right(roll, 7, GORDZILA_OVERWRITING);
+    may(GORDZILA_OVERWRITING, roll, cached, 300);
+}
+
 /* Two grants come into the pile: one that has stopped opening, and one for reading. */
 static void day(uint8_t roll[GORDZILA_ROLL_BYTES], struct pile *pile) {
     uint8_t grant[GORDZILA_GRANT_BYTES] = {0};
-    done("issue an overwriting grant to", 7,
-         gordzila_issue(key, sizeof key, rounds, roll, GORDZILA_ROLL_BYTES, 7, 300, GORDZILA_OVERWRITING, grant, sizeof grant));
-    done("enter", 7, gordzila_enter(roll, GORDZILA_ROLL_BYTES, 7));
-    done("issue an overwriting grant to", 7,
-         gordzila_issue(key, sizeof key, rounds, roll, GORDZILA_ROLL_BYTES, 7, 300, GORDZILA_OVERWRITING, grant, sizeof grant));
+    issue(roll, 7, GORDZILA_OVERWRITING, grant);
+    enter(roll, 7, GORDZILA_OVERWRITING);
+    issue(roll, 7, GORDZILA_OVERWRITING, grant);
     cache(pile, grant);
     may(GORDZILA_READING, roll, grant, 300);
     may(GORDZILA_OVERWRITING, roll, grant, 300);
     may(GORDZILA_OVERWRITING, roll, grant, 301);
-    done("withdraw", 7, gordzila_withdraw(roll, GORDZILA_ROLL_BYTES, 7));
+    demotion(roll, grant);
+    withdraw(roll, 7);
     may(GORDZILA_READING, roll, grant, 300);
     may(GORDZILA_OVERWRITING, roll, grant, 300);
-    done("enter", 7, gordzila_enter(roll, GORDZILA_ROLL_BYTES, 7));
+    enter(roll, 7, GORDZILA_OVERWRITING);
     may(GORDZILA_OVERWRITING, roll, grant, 300);
-    done("issue a reading grant to", 7,
-         gordzila_issue(key, sizeof key, rounds, roll, GORDZILA_ROLL_BYTES, 7, 300, GORDZILA_READING, grant, sizeof grant));
+    issue(roll, 7, GORDZILA_READING, grant);
     cache(pile, grant);
     may(GORDZILA_READING, roll, grant, 300);
     may(GORDZILA_OVERWRITING, roll, grant, 300);
@@ -170,9 +201,8 @@ static void day(uint8_t roll[GORDZILA_ROLL_BYTES], struct pile *pile) {
  */
 static void morning(uint8_t roll[GORDZILA_ROLL_BYTES], struct pile *pile, uint8_t page[GORDZILA_PAGE_BYTES]) {
     uint8_t grant[GORDZILA_GRANT_BYTES] = {0};
-    done("enter", 12, gordzila_enter(roll, GORDZILA_ROLL_BYTES, 12));
-    done("issue an overwriting grant to", 12,
-         gordzila_issue(key, sizeof key, rounds, roll, GORDZILA_ROLL_BYTES, 12, 300, GORDZILA_OVERWRITING, grant, sizeof grant));
+    enter(roll, 12, GORDZILA_OVERWRITING);
+    issue(roll, 12, GORDZILA_OVERWRITING, grant);
     cache(pile, grant);
     grant[0] ^= 1;
     cache(pile, grant);
@@ -180,7 +210,7 @@ static void morning(uint8_t roll[GORDZILA_ROLL_BYTES], struct pile *pile, uint8_
     if (may(GORDZILA_OVERWRITING, roll, pile->grants + 2 * GORDZILA_GRANT_BYTES, 300)) {
         seal(page, 300, 4, "front panel, sizes 40 to 46");
     }
-    done("withdraw", 12, gordzila_withdraw(roll, GORDZILA_ROLL_BYTES, 12));
+    withdraw(roll, 12);
     may_with_pile(GORDZILA_READING, roll, pile, 300);
 }
 
@@ -195,9 +225,12 @@ static void reading(const uint8_t roll[GORDZILA_ROLL_BYTES], const struct pile *
 }
 
 int main(void) {
-    uint8_t roll[GORDZILA_ROLL_BYTES] = {0};
+    uint8_t roll[GORDZILA_ROLL_BYTES];
     uint8_t page[GORDZILA_PAGE_BYTES] = {0};
     struct pile pile = {{0}, 0};
+    if (gordzila_empty_roll(roll, sizeof roll) != 0) {
+        return 1;
+    }
     day(roll, &pile);
     morning(roll, &pile, page);
     reading(roll, &pile, page);

@@ -4,10 +4,10 @@
  * first reason in the header's order that holds (rules.h); and nothing may change but the bytes of answers that a call that does not
  * refuse writes, one for each grant. These have to be what a single check of each grant answers, and that what the rules say of it.
  *
- * Of each of 11 keys with each of 13 round counts there are queues of 13 lengths with 11 lengths of answers, on 4 rolls, for 5 rights:
- * 143 * 2,860. Of the 6 of these pairs that are right there is a pile of 64 grants that are enciphered here, for each of 2 size blocks
+ * Of each of 11 keys with each of 13 round counts there are queues of 13 lengths with 11 lengths of answers, on 7 rolls, for 5 rights:
+ * 143 * 5,005. Of the 6 of these pairs that are right there is a pile of 64 grants that are enciphered here, for each of 2 size blocks
  * and 2 rights the single checks of all, and a queue of each number of them from 0 to 64: 6 * (64 + 4 * (64 + 65)). On both sides,
- * 2 * (408,980 + 3,480) are 824,920 calls. Prints how many did what they have to; the status is 1 where one did not.
+ * 2 * (715,715 + 3,480) are 1,438,390 calls. Prints how many did what they have to; the status is 1 where one did not.
  */
 #include "guard.h"
 #include "rules.h"
@@ -16,13 +16,22 @@ enum { MOST = GORDZILA_QUEUE_MOST_GRANTS };
 
 static const size_t key_lengths[] = {0, 1, 11, 12, 13, 17, 18, 19, 23, 24, 25};
 static const uint32_t round_counts[] = {0, 9, 10, 11, 12, 13, 14, 17, 18, 23, 24, 266, 0xffffffffu};
-static const size_t roll_lengths[] = {0, 399, 400, 401};
+static const size_t roll_lengths[] = {0, 399, 400, 401, 599, 600, 601};
 static const uint32_t rights[] = {0, 1, 2, 3, 258};
 static const size_t queue_lengths[] = {0, 1, 11, 12, 13, 24, 755, 756, 767, 768, 769, 780, 1536};
 static const size_t answer_lengths[] = {0, 1, 2, 3, 62, 63, 64, 65, 66, 128, 256};
 
-/* A contractor and their count on the roll; all others have 0. Those with 1, 5 and 65,533 are in standing. */
-static const unsigned counts[][2] = {{7, 1}, {8, 2}, {200, 5}, {1, 65533}, {9, 65535}};
+/*
+ * Contractors and their entries on the roll; all others have count 0 and may overwrite. Those with the counts 1, 3, 5 and 65,533 are in
+ * standing. Who may overwrite there, and who may only read, stand side by side.
+ */
+static const struct {
+    unsigned contractor;
+    struct entry entry;
+} entries[] = {
+    {1, {65533, 2}}, {2, {1, 0}}, {3, {1, 3}},     {4, {2, 1}},     {6, {0, 1}},
+    {7, {1, 2}},     {8, {2, 1}}, {9, {65535, 2}}, {199, {3, 255}}, {200, {5, 2}},
+};
 
 /* What a grant says, and the last byte of its mark, which is 0x44. */
 struct plain {
@@ -30,11 +39,14 @@ struct plain {
     uint8_t right, mark;
 };
 
-static const struct plain plains[17] = {
+/* The last six are of contractors who may only read. */
+enum { KINDS = 23 };
+static const struct plain plains[KINDS] = {
     {7, 1, 300, 2, 0x44},   {7, 1, 300, 1, 0x44},     {7, 1, 301, 2, 0x44},     {7, 1, 301, 1, 0x44},   {7, 3, 300, 2, 0x44},
     {7, 3, 300, 1, 0x44},   {8, 2, 300, 2, 0x44},     {8, 1, 300, 1, 0x44},     {200, 5, 300, 2, 0x44}, {200, 5, 301, 1, 0x44},
     {200, 1, 301, 1, 0x44}, {1, 65533, 300, 1, 0x44}, {9, 65535, 300, 2, 0x44}, {0, 0, 300, 2, 0x44},   {201, 1, 300, 1, 0x44},
-    {7, 1, 300, 3, 0x44},   {7, 1, 300, 2, 0x45},
+    {7, 1, 300, 3, 0x44},   {7, 1, 300, 2, 0x45},     {2, 1, 300, 2, 0x44},     {3, 1, 300, 2, 0x44},   {199, 3, 301, 2, 0x44},
+    {2, 1, 300, 1, 0x44},   {3, 3, 300, 2, 0x44},     {4, 1, 300, 2, 0x44},
 };
 
 static struct lent key, roll, grants, answers;
@@ -45,23 +57,23 @@ static uint8_t pile[2 * MOST][GORDZILA_GRANT_BYTES];
 /* What the single checks say of the pile as bytes of a queue: by size block from 300 on, and by right from 1 on. */
 static uint8_t verdicts[2][2][MOST];
 
-/* All kinds stand in the first 17 grants, in the next 17 and in those after, each time in another order. */
-static const struct plain *plain_at(size_t i) { return &plains[(i * i * i + i / 17) % 17]; }
+/* All kinds stand in the first 23 grants, and in the next 23, each time in another order. */
+static const struct plain *plain_at(size_t i) { return &plains[(i * i * i + i / KINDS) % KINDS]; }
 
-static unsigned count_of(unsigned contractor) {
-    for (size_t i = 0; i < COUNT(counts); i++) {
-        if (counts[i][0] == contractor) {
-            return counts[i][1];
+static struct entry entry_of(unsigned contractor) {
+    for (size_t i = 0; i < COUNT(entries); i++) {
+        if (entries[i].contractor == contractor) {
+            return entries[i].entry;
         }
     }
-    return 0;
+    return (struct entry){0, 2};
 }
 
 static void lend_roll(size_t length) {
-    uint8_t bytes[GORDZILA_ROLL_BYTES + 1] = {0};
-    for (size_t i = 0; i < COUNT(counts); i++) {
-        bytes[2 * (counts[i][0] - 1)] = (uint8_t)(counts[i][1] / 256);
-        bytes[2 * (counts[i][0] - 1) + 1] = (uint8_t)(counts[i][1] % 256);
+    uint8_t bytes[GORDZILA_ROLL_BYTES + 1];
+    fill_roll(bytes, sizeof bytes, 2);
+    for (size_t i = 0; i < COUNT(entries); i++) {
+        put_entry(bytes, entries[i].contractor, entries[i].entry);
     }
     lend(&roll, bytes, length);
 }
@@ -77,13 +89,14 @@ static void lend_answers(size_t length) {
 
 /* The reason with which a check refuses a grant, or 0, by the rules. */
 static uint32_t refusal(const struct plain *p, uint32_t block, uint32_t right) {
-    unsigned count = count_of(p->contractor);
-    int whole = p->contractor >= 1 && p->contractor <= 200 && is_right(p->right) && p->mark == 0x44;
+    struct entry e = entry_of(p->contractor);
+    int whole = is_contractor(p->contractor) && is_right(p->right) && p->mark == 0x44;
     uint32_t number = then(0, !whole, GORDZILA_NOT_A_GRANT);
     number = then(number, p->block != block, GORDZILA_OTHER_BLOCK);
     number = then(number, falls_short(p->right, right), GORDZILA_OTHER_RIGHT);
-    number = then(number, count % 2 == 0 || count == 65535, GORDZILA_NOT_IN_STANDING);
-    return then(number, p->count != count, GORDZILA_OTHER_COUNT);
+    number = then(number, !in_standing(e), GORDZILA_NOT_IN_STANDING);
+    number = then(number, p->count != e.count, GORDZILA_OTHER_COUNT);
+    return then(number, is_above(right, e), GORDZILA_ABOVE_HIGHEST);
 }
 
 /* The pile of grants under the key that is lent: plain bytes, enciphered. */
@@ -117,7 +130,7 @@ static void singles(uint32_t rounds, uint32_t block, uint32_t right) {
 static void queue(uint32_t rounds, size_t from, size_t length, uint32_t block, uint32_t right, size_t room) {
     size_t number = length / 12;
     uint32_t expected = of_rounds(key.length, rounds);
-    expected = then(expected, roll.length != 400 || length % 12 != 0 || length > 768, GORDZILA_INPUT_LENGTH);
+    expected = then(expected, roll.length != GORDZILA_ROLL_BYTES || length % 12 != 0 || length > 768, GORDZILA_INPUT_LENGTH);
     expected = then(expected, room < number, GORDZILA_OUTPUT_TOO_SHORT);
     expected = then(expected, !is_right(right), GORDZILA_RIGHT);
     lend(&grants, pile[from], length);

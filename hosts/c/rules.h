@@ -1,6 +1,6 @@
 /*
- * What the tests of limits expect, by the header's words: the reasons that hold of a key, a round count and rights, and the first of
- * several.
+ * What the tests expect, by the header's words: the reasons that hold of a key, a round count, rights and a contractor, the first of
+ * several, and the bytes of a roll.
  */
 #ifndef RULES_H
 #define RULES_H
@@ -25,6 +25,36 @@ static inline int is_right(uint32_t right) { return right == GORDZILA_READING ||
 /* The one case in which a grant for the size block does not open it for the right asked for. */
 static inline int falls_short(uint32_t in_grant, uint32_t asked) {
     return in_grant == GORDZILA_READING && asked == GORDZILA_OVERWRITING;
+}
+
+/* A contractor's entry on the roll. Any byte may be their highest right. */
+struct entry {
+    unsigned count;
+    uint8_t highest;
+};
+
+static inline int is_contractor(uint32_t number) { return number >= 1 && number <= 200; }
+
+static inline int in_standing(struct entry e) { return e.count % 2 == 1 && e.count < 65535; }
+
+/* Whether a right is above the highest one: only 2 as the highest lets its contractor overwrite. */
+static inline int is_above(uint32_t asked, struct entry e) { return asked == GORDZILA_OVERWRITING && e.highest != 2; }
+
+/* Where the rights begin on a roll, after the counts. */
+enum { RIGHTS_AT = 400 };
+
+/* Bytes as of a roll, cut or made longer, on which all counts are 0 and all highest rights the same. */
+static inline void fill_roll(uint8_t *bytes, size_t length, uint8_t highest) {
+    for (size_t i = 0; i < length; i++) {
+        bytes[i] = i < RIGHTS_AT ? 0 : highest;
+    }
+}
+
+/* Puts the entry of a contractor, who has to be one, in its place on a roll. */
+static inline void put_entry(uint8_t *roll, uint32_t contractor, struct entry e) {
+    roll[2 * (contractor - 1)] = (uint8_t)(e.count / 256);
+    roll[2 * (contractor - 1) + 1] = (uint8_t)(e.count % 256);
+    roll[RIGHTS_AT + contractor - 1] = e.highest;
 }
 
 #endif

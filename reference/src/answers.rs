@@ -1,13 +1,17 @@
 //! Worked answers to fixed questions, as plain text. Nothing is drawn from a
-//! generator: all inputs stand in this file and in README.md.
+//! generator: all inputs stand in this file, in `right_answers.rs` and
+//! `page_answers.rs`, and in README.md.
 //!
 //! The keys are the first 12, the first 18 and all 24 bytes of KEY. The lines come
 //! in this order:
 //!
 //! - `limits L LEAST MOST`: the least and the greatest number of rounds for keys of
 //!   L bytes.
-//! - `roll BYTES COUNT ...`: the counts of contractors 1, 2, ... in a roll in bytes.
-//! - `rollbytes COUNT ... BYTES`: the roll in bytes that has these counts.
+//! - `roll BYTES COUNT ...`: the counts of contractors 1, 2, ... in the first bytes of a
+//!   roll.
+//! - `rollbytes COUNT ... BYTES`: the first bytes of a roll that has these counts.
+//! - `empty`, `entry` and `placed`: what these lines are stands at the top of
+//!   `right_answers.rs`.
 //! - `block BYTES ROW0 ROW1 ROW2`: the rows of the state that a block stands for.
 //! - `stage KEY s STAGE SUBKEY`: stage s of a key and its subkey, for s = 1, 2 and
 //!   6t - 1.
@@ -20,9 +24,10 @@
 //! - `plain CONTRACTOR COUNT BLOCK RIGHT BYTES`: the plain bytes of a grant.
 //! - `covers GRANTED ASKED YES`: 1 or 0, whether a grant with the right GRANTED may be
 //!   used for the right ASKED, for all of 0 to 3, ASKED being the faster one.
-//! - `judged PLAIN COUNT BLOCK RIGHT NUMBER CONTRACTOR ANSWERED`: what a check says of
-//!   a grant with the plain bytes PLAIN, asked for a size block and a right, where the
-//!   roll has COUNT for the contractor in PLAIN.
+//! - `highest`: see the top of `right_answers.rs`.
+//! - `judged PLAIN COUNT FIGURE BLOCK RIGHT NUMBER CONTRACTOR ANSWERED`: what a check says
+//!   of a grant with the plain bytes PLAIN, asked for a size block and a right, where the
+//!   roll has COUNT and FIGURE for the contractor in PLAIN.
 //! - `walk L FROM TO STEPS WAY`: what a walk of a holder of a key of L bytes reports.
 //! - `lent KEY s BYTES`: the 26 bytes of a lent holder of a key at stage s, for s = 0,
 //!   1 and 6t - 1.
@@ -30,11 +35,12 @@
 //!   the same walks, then for one to 6t from 0 for each key.
 //! - `broken BYTES ANSWER`: the number that a step forward on lent bytes answers.
 //! - `standing COUNT yes|no`: whether a contractor with this count is in standing.
+//! - `changed`: see the top of `right_answers.rs`.
 //! - `queued LENGTH yes|no`: whether so many bytes are those of a queue of grants.
-//! - `queue KEY ROUNDS COUNT,COUNT,... GRANTS BLOCK RIGHT ANSWER ANSWER ...`: the answers
-//!   for the enciphered grants of a queue, in their order, asked for a size block and a
-//!   right, where the roll has these counts for contractors 1, 2, ... and zero for all
-//!   later ones.
+//! - `queue KEY ROUNDS COUNT,COUNT,... FIGURE,FIGURE,... GRANTS BLOCK RIGHT ANSWER ANSWER
+//!   ...`: the answers for the enciphered grants of a queue, in their order, asked for a
+//!   size block and a right, where the roll has these counts and these figures for
+//!   contractors 1, 2, ..., and count 0 and figure 1 for all later ones.
 //! - `order CALL A B GIVEN`: the number with which a call is refused for which the
 //!   reasons A and B hold, and no reason that comes before A.
 //! - the lines for sealed pages, which stand at the top of `page_answers.rs`.
@@ -42,11 +48,10 @@
 //! A and B are neighbours in the order of the reasons for a call. Some neighbours
 //! have no line:
 //!
-//! - Enter has none at all, because no two of its reasons 6, 21, 22 hold together. A
-//!   contractor outside 1 to 200 has no count; so 21 does not hold, which needs one
-//!   that is odd, nor 22, which needs 65,534 or 65,535. And with these two counts a
-//!   contractor is not in standing, so 21 and 22 do not hold together.
-//! - Issue has the order 1, 2, 4, 6, 7, 20, but no input for reason 4, an output that
+//! - Enter has the order 6, 7, 21, 22, but 21 and 22 do not hold together: with count
+//!   65,534 or 65,535, which is reason 22, a contractor is not in standing. So there is
+//!   a line for 7 and 22 instead, next to the one for 7 and 21.
+//! - Issue has the order 1, 2, 4, 6, 7, 20, 25, but no input for reason 4, an output that
 //!   is too short, because it returns the grant. So 6 comes next to 2.
 //!
 //! The reasons 6 and 20 of withdraw do hold together: a contractor without a count
@@ -55,7 +60,7 @@
 //!
 //! The grants of `judged` are all for contractor 7, with count 1 and size block 300.
 //!
-//! The two lines `queue` have the same four grants, all for size block 300. Overwriting
+//! The two lines `queue` have the same five grants, all for size block 300. Overwriting
 //! is asked for in the first, reading in the second.
 //!
 //! The whole holders of `broken` stand last; they are at stage 6t - 1. The bytes of
@@ -68,6 +73,10 @@ use crate::grants::{answer_of, number_of};
 use crate::holder::{forward, holder_bytes, walk_to};
 use crate::matrix::Matrix;
 use crate::page_answers::add_page_answers;
+use crate::right_answers::{
+    add_changed_lines, add_empty_line, add_entry_lines, add_highest_lines, add_placed_lines,
+    roll_with_entry,
+};
 use crate::roll::{
     counts_from_bytes, counts_to_bytes, covers, in_standing, queue_length, Grant, Roll,
     CONTRACTORS, OVERWRITING, READING,
@@ -89,10 +98,10 @@ pub(crate) const SHORT: usize = 12;
 /// The number of rounds with this key.
 pub(crate) const ROUNDS: usize = 10;
 
-/// The roll in bytes that is read.
+/// The first bytes of a roll, from which counts are read.
 const ROLL_READ: [u8; 8] = [0x01, 0x02, 0x03, 0x04, 0xFF, 0xFE, 0x00, 0x01];
 
-/// The counts that are written as a roll in bytes.
+/// The counts that are written as the first bytes of a roll.
 const ROLL_WRITTEN: [u16; 4] = [1, 256, 4_660, 65_534];
 
 /// The block whose rows are printed.
@@ -114,19 +123,30 @@ const GRANTS: [Grant; 2] = [
     },
 ];
 
-/// The checks that are judged: the right in the grant, the contractor's count in the
-/// roll, and the size block and the right that are asked for. Rights 0 and 3 are none.
-const JUDGED: [(u8, u16, u32, u8); 10] = [
-    (OVERWRITING, 1, 300, READING),
-    (OVERWRITING, 1, 300, OVERWRITING),
-    (READING, 1, 300, READING),
-    (READING, 1, 300, OVERWRITING),
-    (OVERWRITING, 1, 301, READING),
-    (OVERWRITING, 2, 300, READING),
-    (OVERWRITING, 3, 300, READING),
-    (3, 1, 300, READING),
-    (3, 1, 300, OVERWRITING),
-    (0, 1, 300, READING),
+/// The checks that are judged: the right in the grant, the contractor's count and figure
+/// in the roll, and the size block and the right that are asked for. Rights 0 and 3 are
+/// none.
+const JUDGED: [(u8, u16, u8, u32, u8); 20] = [
+    (OVERWRITING, 1, 2, 300, READING),
+    (OVERWRITING, 1, 2, 300, OVERWRITING),
+    (READING, 1, 2, 300, READING),
+    (READING, 1, 2, 300, OVERWRITING),
+    (OVERWRITING, 1, 2, 301, READING),
+    (OVERWRITING, 2, 2, 300, READING),
+    (OVERWRITING, 3, 2, 300, READING),
+    (3, 1, 2, 300, READING),
+    (3, 1, 2, 300, OVERWRITING),
+    (0, 1, 2, 300, READING),
+    (OVERWRITING, 1, 0, 300, OVERWRITING),
+    (OVERWRITING, 1, 1, 300, OVERWRITING),
+    (OVERWRITING, 1, 3, 300, OVERWRITING),
+    (OVERWRITING, 1, 255, 300, OVERWRITING),
+    (OVERWRITING, 1, 0, 300, READING),
+    (OVERWRITING, 1, 1, 300, READING),
+    (OVERWRITING, 1, 255, 300, READING),
+    (READING, 1, 1, 300, OVERWRITING),
+    (OVERWRITING, 3, 1, 300, OVERWRITING),
+    (OVERWRITING, 2, 1, 300, OVERWRITING),
 ];
 
 /// The walks: the key length, and the places from which and to which they go.
@@ -153,25 +173,35 @@ const QUEUE_LENGTHS: [usize; 11] = [0, 1, 11, 12, 13, 24, 756, 767, 768, 769, 78
 /// The counts of contractors 1, 2 and 3 in the roll of the queue that is answered.
 const QUEUE_COUNTS: [u16; 3] = [1, 2, 3];
 
+/// The figures of these contractors. Only contractor 1 may overwrite.
+const QUEUE_FIGURES: [u8; 3] = [2, 1, 255];
+
 /// The grants of this queue: the contractor, the count, the size block and the right.
-const QUEUE: [(u16, u16, u32, u8); 4] = [
+const QUEUE: [(u16, u16, u32, u8); 5] = [
     (1, 1, 300, OVERWRITING),
     (1, 1, 300, READING),
     (2, 2, 300, OVERWRITING),
     (3, 1, 300, OVERWRITING),
+    (3, 3, 300, OVERWRITING),
 ];
 
 /// What the bytes lent for answers have before: no number of an answer.
 pub(crate) const UNWRITTEN: u8 = 0xFF;
 
+/// The pairs of reasons for entering.
+const ENTER_PAIRS: [[u8; 2]; 3] = [[6, 7], [7, 21], [7, 22]];
+
+/// The pairs of reasons for a change of right.
+const CHANGE_PAIRS: [[u8; 2]; 2] = [[6, 7], [7, 20]];
+
 /// The pairs of reasons for a withdrawal.
 const WITHDRAW_PAIRS: [[u8; 2]; 1] = [[6, 20]];
 
 /// The pairs of reasons for an issue.
-const ISSUE_PAIRS: [[u8; 2]; 4] = [[1, 2], [2, 6], [6, 7], [7, 20]];
+const ISSUE_PAIRS: [[u8; 2]; 5] = [[1, 2], [2, 6], [6, 7], [7, 20], [20, 25]];
 
 /// The pairs of reasons for a check.
-const CHECK_PAIRS: [[u8; 2]; 8] = [
+const CHECK_PAIRS: [[u8; 2]; 9] = [
     [1, 2],
     [2, 3],
     [3, 7],
@@ -180,6 +210,7 @@ const CHECK_PAIRS: [[u8; 2]; 8] = [
     [9, 10],
     [10, 20],
     [20, 23],
+    [23, 25],
 ];
 
 /// The pairs of reasons for a queue.
@@ -191,7 +222,8 @@ const CONTRACTOR: u16 = 7;
 /// The number of the size block of a call in which nothing is wrong.
 pub(crate) const SIZE_BLOCK: u32 = 300;
 
-/// Everyone's count in the roll of a call in which nothing is wrong.
+/// Everyone's count in the roll of a call in which nothing is wrong. Entering has one
+/// less, so that nobody is in standing.
 const COUNT: u16 = 3;
 
 /// All worked answers.
@@ -199,6 +231,9 @@ pub fn answers_text() -> Result<String, Error> {
     let mut text = String::new();
     add_limits_lines(&mut text)?;
     add_roll_lines(&mut text);
+    add_empty_line(&mut text);
+    add_entry_lines(&mut text);
+    add_placed_lines(&mut text);
     add_block_line(&mut text)?;
     add_stage_lines::<4>(&mut text)?;
     add_stage_lines::<6>(&mut text)?;
@@ -210,20 +245,29 @@ pub fn answers_text() -> Result<String, Error> {
     add_list_lines(&mut text)?;
     add_plain_lines(&mut text);
     add_covers_lines(&mut text);
+    add_highest_lines(&mut text);
     add_judged_lines(&mut text);
     add_walk_lines(&mut text);
     add_lent_lines(&mut text)?;
     add_walked_lines(&mut text)?;
     add_broken_lines(&mut text)?;
     add_standing_lines(&mut text);
+    add_changed_lines(&mut text);
     add_queued_lines(&mut text);
     add_queue_lines(&mut text);
-    add_order_lines(&mut text, "withdraw", &WITHDRAW_PAIRS, withdraw_with);
-    add_order_lines(&mut text, "issue", &ISSUE_PAIRS, issue_with);
-    add_order_lines(&mut text, "check", &CHECK_PAIRS, check_with);
-    add_order_lines(&mut text, "queue", &QUEUE_PAIRS, queue_with);
+    add_roll_order_lines(&mut text);
     add_page_answers(&mut text);
     Ok(text)
+}
+
+/// The lines for the pairs of reasons for all calls on a roll.
+fn add_roll_order_lines(text: &mut String) {
+    add_order_lines(text, "enter", &ENTER_PAIRS, enter_with);
+    add_order_lines(text, "right", &CHANGE_PAIRS, change_with);
+    add_order_lines(text, "withdraw", &WITHDRAW_PAIRS, withdraw_with);
+    add_order_lines(text, "issue", &ISSUE_PAIRS, issue_with);
+    add_order_lines(text, "check", &CHECK_PAIRS, check_with);
+    add_order_lines(text, "queue", &QUEUE_PAIRS, queue_with);
 }
 
 /// The lines for the numbers of rounds in Table 2 (section 3.9).
@@ -237,7 +281,7 @@ fn add_limits_lines(text: &mut String) -> Result<(), Error> {
     Ok(())
 }
 
-/// The line for a roll that is read, and the line for one that is written.
+/// The line for counts that are read, and the line for counts that are written.
 fn add_roll_lines(text: &mut String) {
     let read = counts_from_bytes(&ROLL_READ).expect("the number of bytes is even");
     add_line(text, &["roll", &hex(&ROLL_READ), &decimals(&read, " ")]);
@@ -334,10 +378,10 @@ fn add_covers_lines(text: &mut String) {
     }
 }
 
-/// The lines for checks, with the contractor and the size block of a call in which
-/// nothing is wrong, and count 1 in the grant.
+/// The lines for checks of grants with the contractor and the size block of a call in
+/// which nothing is wrong, and count 1.
 fn add_judged_lines(text: &mut String) {
-    for (granted, count, block, asked) in JUDGED {
+    for (granted, count, figure, block, asked) in JUDGED {
         let grant = Grant {
             contractor: CONTRACTOR,
             count: 1,
@@ -345,28 +389,21 @@ fn add_judged_lines(text: &mut String) {
             right: granted,
         };
         let plain = grant.plain_bytes();
+        let roll = roll_with_entry(CONTRACTOR, count, figure);
+        let checked = roll.check(&KEY[..SHORT], ROUNDS, &enciphered(&plain), block, asked);
         add_line(
             text,
             &[
                 "judged",
                 &hex(&plain),
                 &count.to_string(),
+                &figure.to_string(),
                 &block.to_string(),
                 &asked.to_string(),
-                &judgement(&plain, count, block, asked),
+                &answer_of(&checked),
             ],
         );
     }
-}
-
-/// The fields for the answer to a check of a grant that deciphers to these bytes. In
-/// the roll the contractor has the given count, and everyone else has zero.
-fn judgement(plain: &[u8], count: u16, block: u32, right: u8) -> String {
-    let mut counts = [0; CONTRACTORS];
-    counts[usize::from(CONTRACTOR) - 1] = count;
-    let roll = Roll::with_counts(counts);
-    let grant = enciphered(plain);
-    answer_of(&roll.check(&KEY[..SHORT], ROUNDS, &grant, block, right))
 }
 
 /// Plain bytes enciphered under the short key.
@@ -510,6 +547,7 @@ fn add_queue_lines(text: &mut String) {
                 &hex(&KEY[..SHORT]),
                 &ROUNDS.to_string(),
                 &decimals(&QUEUE_COUNTS, ","),
+                &decimals(&QUEUE_FIGURES, ","),
                 &hex(&grants),
                 &SIZE_BLOCK.to_string(),
                 &right.to_string(),
@@ -538,7 +576,9 @@ fn queued_grants() -> Vec<u8> {
 fn queue_answers(grants: &[u8], right: u8) -> [u8; QUEUE.len()] {
     let mut counts = [0; CONTRACTORS];
     counts[..QUEUE_COUNTS.len()].copy_from_slice(&QUEUE_COUNTS);
-    let roll = Roll::with_counts(counts);
+    let mut figures = [READING; CONTRACTORS];
+    figures[..QUEUE_FIGURES.len()].copy_from_slice(&QUEUE_FIGURES);
+    let roll = Roll::with_entries(counts, figures);
     let mut answers = [UNWRITTEN; QUEUE.len()];
     let key = &KEY[..SHORT];
     let called = roll.check_queue(key, ROUNDS, grants, SIZE_BLOCK, right, &mut answers);
@@ -560,13 +600,33 @@ pub(crate) fn add_order_lines(
     }
 }
 
+/// The number of an entering for which the given reasons hold, of 6, 7, 21 and 22. For
+/// reason 21 everyone is in standing, and for reason 22 everyone's count is full.
+pub fn enter_with(reasons: &[u8]) -> String {
+    let count = if reasons.contains(&21) {
+        COUNT
+    } else if reasons.contains(&22) {
+        65_534
+    } else {
+        COUNT - 1
+    };
+    let mut roll = Roll::with_entries([count; CONTRACTORS], [READING; CONTRACTORS]);
+    number_of(&roll.enter(contractor_with(reasons), right_with(reasons)))
+}
+
+/// The number of a change of right for which the given reasons hold, of 6, 7 and 20.
+pub fn change_with(reasons: &[u8]) -> String {
+    let mut roll = roll_with(reasons);
+    number_of(&roll.change_right(contractor_with(reasons), right_with(reasons)))
+}
+
 /// The number of a withdrawal for which the given reasons hold, of 6 and 20.
 pub fn withdraw_with(reasons: &[u8]) -> String {
     let mut roll = roll_with(reasons);
     number_of(&roll.withdraw(contractor_with(reasons)))
 }
 
-/// The number of an issue for which the given reasons hold, of 1, 2, 6, 7 and 20.
+/// The number of an issue for which the given reasons hold, of 1, 2, 6, 7, 20 and 25.
 pub fn issue_with(reasons: &[u8]) -> String {
     let (key, rounds) = key_and_rounds_with(reasons);
     let contractor = contractor_with(reasons);
@@ -575,7 +635,7 @@ pub fn issue_with(reasons: &[u8]) -> String {
 }
 
 /// The number of a check for which the given reasons hold, of 1, 2, 3, 7, 8, 9, 10,
-/// 20 and 23. For reason 9 it is asked for the next size block.
+/// 20, 23 and 25. For reason 9 it is asked for the next size block.
 pub fn check_with(reasons: &[u8]) -> String {
     let (key, rounds) = key_and_rounds_with(reasons);
     let grant = grant_with(reasons);
@@ -627,7 +687,7 @@ fn contractor_with(reasons: &[u8]) -> u16 {
     }
 }
 
-/// The right that is asked for: overwriting, and for reason 7 none.
+/// The right that is asked for or given: overwriting, and for reason 7 none.
 fn right_with(reasons: &[u8]) -> u8 {
     if reasons.contains(&7) {
         3
@@ -645,10 +705,15 @@ fn granted_with(reasons: &[u8]) -> u8 {
     }
 }
 
-/// The roll of a call, in which everyone has the same count. For reason 20 nobody
-/// is in standing.
+/// The roll of a call, in which everyone has the same count and the same figure. For
+/// reason 20 nobody is in standing, and for reason 25 nobody may more than read.
 fn roll_with(reasons: &[u8]) -> Roll {
-    Roll::with_counts([count_with(reasons); CONTRACTORS])
+    let figure = if reasons.contains(&25) {
+        READING
+    } else {
+        OVERWRITING
+    };
+    Roll::with_entries([count_with(reasons); CONTRACTORS], [figure; CONTRACTORS])
 }
 
 /// Everyone's count in the roll of a call.

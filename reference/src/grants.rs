@@ -7,22 +7,27 @@
 //! bytes), draw a byte x, draw BLOCK (4 bytes, big end first), draw a byte y, print
 //! a life. The contractor is 1 + x mod 200, and the right is 1 + y mod 2.
 //!
-//! A life is a fixed list of calls on a new roll, all for this contractor, with
-//! one line for each:
+//! A life is a fixed list of calls on a new roll, all for this contractor, with one
+//! line for each. Where nothing else is said, an entering, an issue and a check have the
+//! right of the life.
 //!
-//! - an issue before the contractor is entered; enter; an issue, which gives grant
-//!   A; grant A checked for its block and right, for the next block, and for the
-//!   other right, which is accepted if that is reading;
-//! - enter again; withdraw; grant A checked; withdraw again;
-//! - enter; grant A checked; an issue, which gives grant B; grant B checked; grant
-//!   A checked;
-//! - grant B checked 12 times, each time with another byte damaged: the byte is
-//!   xored with 1.
+//! - An issue and a change to 2 before the contractor is entered; enter; an issue, which
+//!   gives grant A; grant A checked for its block and right, for the next block, and for
+//!   the other right; an issue for the other right.
+//! - A change to 1; grant A checked for 2 and for 1; an issue for 2; a change to 2; grant
+//!   A checked; an issue for 2, which gives grant C; grant C checked for 2; a change to 1;
+//!   grant C checked for 2 and for 1.
+//! - A change to 3, which is no right; enter again; withdraw; grant A checked; withdraw
+//!   again; a change to 1.
+//! - Enter; grant A checked; grant C checked for 2; an issue, which gives grant B; grant B
+//!   checked; grant A checked; grant B checked for 2.
+//! - Grant B checked 12 times, each time with another byte damaged: the byte is xored
+//!   with 1.
 
 use crate::cipher::allowed_rounds;
 use crate::error::Error;
 use crate::generator::Generator;
-use crate::roll::{Accepted, Refusal, Roll};
+use crate::roll::{Accepted, Refusal, Roll, OVERWRITING, READING};
 use crate::vectors::{add_line, draw_number, hex, KEY_LENGTHS, SEED};
 
 /// How many lives there are for each key length and number of rounds.
@@ -30,6 +35,9 @@ const LIVES_PER_ROUNDS: usize = 4;
 
 /// The number of a call that is not refused.
 const DONE: u8 = 0;
+
+/// A number that is no right.
+const NO_RIGHT: u8 = 3;
 
 /// What a damaged byte of a grant is xored with.
 const DAMAGE: u8 = 1;
@@ -74,26 +82,67 @@ fn draw_life(generator: &mut Generator, key_length: usize, rounds: usize) -> Lif
 /// The lines for one life.
 fn life_text(life: &Life) -> String {
     let mut log = Log::new(life);
-    let other_right = 3 - life.right;
-    log.issue();
-    log.enter();
-    let grant_a = log.issue();
-    log.check(&grant_a, life.block, life.right);
-    log.check(&grant_a, life.block.wrapping_add(1), life.right);
-    log.check(&grant_a, life.block, other_right);
-    log.enter();
-    log.withdraw();
-    log.check(&grant_a, life.block, life.right);
-    log.withdraw();
-    log.enter();
-    log.check(&grant_a, life.block, life.right);
-    let grant_b = log.issue();
-    log.check(&grant_b, life.block, life.right);
-    log.check(&grant_a, life.block, life.right);
+    let grant_a = enter_first(&mut log, life);
+    let grant_c = demote_and_raise(&mut log, life, &grant_a);
+    withdraw(&mut log, life, &grant_a);
+    let grant_b = enter_again(&mut log, life, &grant_a, &grant_c);
     for position in 0..grant_b.len() {
         log.check_damaged(&grant_b, position);
     }
     log.text
+}
+
+/// The calls up to the first change of right in standing. Grant A is returned.
+fn enter_first(log: &mut Log, life: &Life) -> Vec<u8> {
+    let other_right = 3 - life.right;
+    log.issue(life.right);
+    log.change_right(OVERWRITING);
+    log.enter(life.right);
+    let grant_a = log.issue(life.right);
+    log.check(&grant_a, life.block, life.right);
+    log.check(&grant_a, life.block.wrapping_add(1), life.right);
+    log.check(&grant_a, life.block, other_right);
+    log.issue(other_right);
+    grant_a
+}
+
+/// The changes of right in standing, from reading to overwriting and back to reading.
+/// Grant C, which is issued in between, is returned.
+fn demote_and_raise(log: &mut Log, life: &Life, grant_a: &[u8]) -> Vec<u8> {
+    log.change_right(READING);
+    log.check(grant_a, life.block, OVERWRITING);
+    log.check(grant_a, life.block, READING);
+    log.issue(OVERWRITING);
+    log.change_right(OVERWRITING);
+    log.check(grant_a, life.block, life.right);
+    let grant_c = log.issue(OVERWRITING);
+    log.check(&grant_c, life.block, OVERWRITING);
+    log.change_right(READING);
+    log.check(&grant_c, life.block, OVERWRITING);
+    log.check(&grant_c, life.block, READING);
+    grant_c
+}
+
+/// The withdrawal, with refused calls on both sides of it.
+fn withdraw(log: &mut Log, life: &Life, grant_a: &[u8]) {
+    log.change_right(NO_RIGHT);
+    log.enter(life.right);
+    log.withdraw();
+    log.check(grant_a, life.block, life.right);
+    log.withdraw();
+    log.change_right(READING);
+}
+
+/// The second standing, in which the grants of the first are old. Grant B is returned.
+fn enter_again(log: &mut Log, life: &Life, grant_a: &[u8], grant_c: &[u8]) -> Vec<u8> {
+    log.enter(life.right);
+    log.check(grant_a, life.block, life.right);
+    log.check(grant_c, life.block, OVERWRITING);
+    let grant_b = log.issue(life.right);
+    log.check(&grant_b, life.block, life.right);
+    log.check(grant_a, life.block, life.right);
+    log.check(&grant_b, life.block, OVERWRITING);
+    grant_b
 }
 
 /// The roll of a life, and the lines for the calls that were made on it.
@@ -125,10 +174,16 @@ impl<'a> Log<'a> {
         }
     }
 
-    /// Enters the contractor, and adds the line for it.
-    fn enter(&mut self) {
-        let number = number_of(&self.roll.enter(self.life.contractor));
-        add_line(&mut self.text, &["enter", &number]);
+    /// Enters the contractor with a highest right, and adds the line for it.
+    fn enter(&mut self, right: u8) {
+        let number = number_of(&self.roll.enter(self.life.contractor, right));
+        add_line(&mut self.text, &["enter", &right.to_string(), &number]);
+    }
+
+    /// Changes the highest right of the contractor, and adds the line for it.
+    fn change_right(&mut self, right: u8) {
+        let number = number_of(&self.roll.change_right(self.life.contractor, right));
+        add_line(&mut self.text, &["right", &right.to_string(), &number]);
     }
 
     /// Withdraws the contractor, and adds the line for it.
@@ -137,25 +192,23 @@ impl<'a> Log<'a> {
         add_line(&mut self.text, &["withdraw", &number]);
     }
 
-    /// Issues a grant, and adds the line for it. It returns the grant, or no bytes
-    /// if the issue is refused.
-    fn issue(&mut self) -> Vec<u8> {
+    /// Issues a grant of a right, and adds the line for it. It returns the grant, or no
+    /// bytes if the issue is refused.
+    fn issue(&mut self, right: u8) -> Vec<u8> {
         let life = self.life;
-        let issued = self.roll.issue(
-            &life.key,
-            life.rounds,
-            life.contractor,
-            life.block,
-            life.right,
-        );
+        let (key, rounds) = (&life.key, life.rounds);
+        let issued = self
+            .roll
+            .issue(key, rounds, life.contractor, life.block, right);
         let number = number_of(&issued);
+        let asked = right.to_string();
         match issued {
             Ok(grant) => {
-                add_line(&mut self.text, &["issue", &number, &hex(&grant)]);
+                add_line(&mut self.text, &["issue", &asked, &number, &hex(&grant)]);
                 grant
             }
             Err(_) => {
-                add_line(&mut self.text, &["issue", &number]);
+                add_line(&mut self.text, &["issue", &asked, &number]);
                 Vec::new()
             }
         }
@@ -164,7 +217,7 @@ impl<'a> Log<'a> {
     /// Checks a grant, and adds the line for it.
     fn check(&mut self, grant: &[u8], block: u32, right: u8) {
         let fields = self.answer(grant, block, right);
-        add_line(&mut self.text, &["check", &fields]);
+        add_line(&mut self.text, &["check", &right.to_string(), &fields]);
     }
 
     /// Checks a grant of the life with the byte at the position damaged, and adds

@@ -19,6 +19,7 @@ pub mod layers;
 pub mod matrix;
 pub mod page_answers;
 pub mod pages;
+pub mod right_answers;
 pub mod roll;
 pub mod routes;
 pub mod sbox;

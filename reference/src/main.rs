@@ -1,7 +1,7 @@
 //! Prints vectors of the reference implementation as plain text on standard
 //! output. What each subcommand prints, and the order in which it draws its
 //! inputs, stands at the top of `vectors.rs`, `routes.rs`, `grants.rs`,
-//! `answers.rs` and `page_answers.rs` and in README.md.
+//! `answers.rs`, `right_answers.rs` and `page_answers.rs` and in README.md.
 
 #![forbid(unsafe_code)]
 

@@ -1,22 +1,28 @@
 //! The roll of contractors, and the grants that are issued from it. Neither is in
 //! the paper; what they do stands below and in README.md.
 //!
-//! The roll has a count of 16 bits for each of the contractors 1 to 200, all zero
-//! at first. A contractor is in standing if the count is odd and below 65,535.
-//! These are the calls, with the numbers of the reasons for which each is refused.
-//! Of several reasons that hold, the first in this order is given. A refused call
-//! changes nothing.
+//! The roll has an entry for each of the contractors 1 to 200: a count of 16 bits, and
+//! a figure of 8 bits for the contractor's highest right. In an empty roll all counts
+//! are 0 and all figures are 1. A contractor is in standing if the count is odd and
+//! below 65,535. The highest right is overwriting if the figure is 2, and reading if it
+//! is anything else. These are the calls, with the numbers of the reasons for which each
+//! is refused. Of several reasons that hold, the first in this order is given. A refused
+//! call changes nothing.
 //!
-//! - enter: adds 1 to a contractor's count; 6, 21, 22.
-//! - withdraw: adds 1 to a contractor's count; 6, 20.
-//! - issue: answers a grant with the contractor's count; 1, 2, 4, 6, 7, 20.
+//! - enter: adds 1 to a contractor's count and stores the right given as the figure; 6,
+//!   7, 21, 22.
+//! - change of right: stores the right given as the figure; 6, 7, 20.
+//! - withdraw: adds 1 to a contractor's count and stores 1 as the figure; 6, 20.
+//! - issue: answers a grant with the contractor's count; 1, 2, 4, 6, 7, 20, 25.
 //! - check: answers the contractor in a grant and the right asked for, asked for one
-//!   size block and one right; 1, 2, 3, 7, 8, 9, 10, 20, 23.
+//!   size block and one right; 1, 2, 3, 7, 8, 9, 10, 20, 23, 25.
 //! - queue: writes an answer for each of 0 to 64 grants, all asked for one size block
 //!   and one right; 1, 2, 3, 4, 7.
 //!
 //! An overwriting grant opens its size block for reading too. A reading grant does
-//! not overwrite; to ask that of it is reason 10.
+//! not overwrite; to ask that of it is reason 10. Reason 25 compares the right asked
+//! for, not the one in the grant, with the contractor's highest right now. So an
+//! overwriting grant of a contractor who may only read still opens for reading.
 //!
 //! A grant is one block of 12 bytes: the plain bytes, enciphered under the key and
 //! the number of rounds. Number 4, for an output that is too short, does not occur in
@@ -29,7 +35,8 @@
 //! answers stay.
 //!
 //! A roll in bytes is the counts of the contractors in order, that of contractor 1
-//! first, two bytes each, big end first. A whole roll has 400 bytes.
+//! first, two bytes each, big end first, and then the figures in the same order, one
+//! byte each. A whole roll has 600 bytes, of which the last 200 are the figures.
 
 use crate::cipher::{allowed_rounds, decrypt, encrypt};
 
@@ -41,6 +48,12 @@ pub const READING: u8 = 1;
 
 /// The right to overwrite.
 pub const OVERWRITING: u8 = 2;
+
+/// The number of bytes that the counts take in a roll in bytes. The figures follow them.
+const COUNTS_LENGTH: usize = 2 * CONTRACTORS;
+
+/// The number of bytes in a whole roll.
+const ROLL_LENGTH: usize = COUNTS_LENGTH + CONTRACTORS;
 
 /// The number of bytes in a grant, plain or enciphered.
 const GRANT_LENGTH: usize = 12;
@@ -71,7 +84,7 @@ pub enum Refusal {
     ShortAnswers = 4,
     /// The contractor is outside 1 to 200.
     NoSuchContractor = 6,
-    /// The right is neither reading nor overwriting.
+    /// The right asked for or given is neither reading nor overwriting.
     NoSuchRight = 7,
     /// The deciphered bytes have a wrong mark, contractor or right.
     NoGrant = 8,
@@ -87,6 +100,8 @@ pub enum Refusal {
     Full = 22,
     /// The count in the grant is not the one in the roll.
     OtherCount = 23,
+    /// The right asked for is above the contractor's highest right.
+    AboveHighest = 25,
 }
 
 impl Refusal {
@@ -152,22 +167,44 @@ pub struct Accepted {
     pub right: u8,
 }
 
-/// The roll: one count for each contractor.
+/// The roll: a count and a figure for each contractor.
 #[derive(Clone, Debug, PartialEq, Eq)]
 pub struct Roll {
     /// The counts, that of contractor 1 first.
     counts: [u16; CONTRACTORS],
+    /// The figures for the highest rights, that of contractor 1 first. They are kept as
+    /// they were handed over, because a figure stays until a call writes its entry.
+    figures: [u8; CONTRACTORS],
 }
 
 impl Roll {
-    /// A new roll, in which all counts are zero.
+    /// An empty roll, in which all counts are zero and nobody may more than read.
     pub fn new() -> Self {
-        Roll::with_counts([0; CONTRACTORS])
+        Roll::with_entries([0; CONTRACTORS], [READING; CONTRACTORS])
     }
 
-    /// A roll with the given counts, that of contractor 1 first.
-    pub fn with_counts(counts: [u16; CONTRACTORS]) -> Self {
-        Roll { counts }
+    /// A roll with the given counts and figures, those of contractor 1 first.
+    pub fn with_entries(counts: [u16; CONTRACTORS], figures: [u8; CONTRACTORS]) -> Self {
+        Roll { counts, figures }
+    }
+
+    /// The roll that 600 bytes stand for: first the counts, then the figures. Any other
+    /// number of bytes gives none. Any count and any figure will do.
+    pub fn from_bytes(bytes: &[u8]) -> Option<Self> {
+        if bytes.len() != ROLL_LENGTH {
+            return None;
+        }
+        let (counts, figures) = bytes.split_at(COUNTS_LENGTH);
+        let counts = counts_from_bytes(counts)?.try_into().ok()?;
+        let figures = figures.try_into().ok()?;
+        Some(Roll::with_entries(counts, figures))
+    }
+
+    /// The 600 bytes of the roll: first the counts, then the figures.
+    pub fn to_bytes(&self) -> Vec<u8> {
+        let mut bytes = counts_to_bytes(&self.counts);
+        bytes.extend(self.figures);
+        bytes
     }
 
     /// The count of a contractor.
@@ -175,9 +212,15 @@ impl Roll {
         Ok(self.counts[place_of(contractor)?])
     }
 
-    /// Enters a contractor who is not in standing.
-    pub fn enter(&mut self, contractor: u16) -> Result<(), Refusal> {
+    /// The figure for the highest right of a contractor, as it is stored.
+    pub fn figure(&self, contractor: u16) -> Result<u8, Refusal> {
+        Ok(self.figures[place_of(contractor)?])
+    }
+
+    /// Enters a contractor who is not in standing, with a highest right.
+    pub fn enter(&mut self, contractor: u16, right: u8) -> Result<(), Refusal> {
         let place = place_of(contractor)?;
+        check_right(right)?;
         if in_standing(self.counts[place]) {
             return Err(Refusal::InStanding);
         }
@@ -185,19 +228,33 @@ impl Roll {
             return Err(Refusal::Full);
         }
         self.counts[place] += 1;
+        self.figures[place] = right;
         Ok(())
     }
 
-    /// Withdraws a contractor who is in standing.
+    /// Changes the highest right of a contractor who is in standing. The right that is
+    /// held already will do. The count stays, so that grants from before the change are
+    /// still of this standing.
+    pub fn change_right(&mut self, contractor: u16, right: u8) -> Result<(), Refusal> {
+        let place = place_of(contractor)?;
+        check_right(right)?;
+        check_standing(self.counts[place])?;
+        self.figures[place] = right;
+        Ok(())
+    }
+
+    /// Withdraws a contractor who is in standing. The highest right becomes reading, as
+    /// in an empty roll.
     pub fn withdraw(&mut self, contractor: u16) -> Result<(), Refusal> {
         let place = place_of(contractor)?;
         check_standing(self.counts[place])?;
         self.counts[place] += 1;
+        self.figures[place] = READING;
         Ok(())
     }
 
-    /// A grant of a right on a size block for a contractor in standing, with the
-    /// contractor's count now, enciphered.
+    /// A grant of a right on a size block for a contractor in standing whose highest
+    /// right is not below it, with the contractor's count now, enciphered.
     pub fn issue(
         &self,
         key: &[u8],
@@ -210,6 +267,7 @@ impl Roll {
         let count = self.count(contractor)?;
         check_right(right)?;
         check_standing(count)?;
+        check_highest(self.figure(contractor)?, right)?;
         let grant = Grant {
             contractor,
             count,
@@ -285,6 +343,7 @@ impl Roll {
         if grant.count != count {
             return Err(Refusal::OtherCount);
         }
+        check_highest(self.figure(grant.contractor)?, right)?;
         Ok(Accepted {
             contractor: grant.contractor,
             right,
@@ -298,8 +357,8 @@ impl Default for Roll {
     }
 }
 
-/// The counts of contractors 1, 2, ... read from a roll in bytes, two for each. An
-/// odd number of bytes gives none. Not only a whole roll can be read.
+/// The counts of contractors 1, 2, ... read from the bytes that a roll has for them, two
+/// for each. An odd number of bytes gives none. Not only all 200 can be read.
 pub fn counts_from_bytes(bytes: &[u8]) -> Option<Vec<u16>> {
     if bytes.len() % 2 == 0 {
         let counts = bytes.chunks(2).map(|pair| joined(pair[0], pair[1]));
@@ -314,8 +373,8 @@ fn joined(high: u8, low: u8) -> u16 {
     256 * u16::from(high) + u16::from(low)
 }
 
-/// The counts of contractors 1, 2, ... written as a roll in bytes, two for each.
-/// Not only a whole roll can be written.
+/// The counts of contractors 1, 2, ... written as a roll has them in bytes, two for each.
+/// Not only all 200 can be written.
 pub fn counts_to_bytes(counts: &[u16]) -> Vec<u8> {
     counts
         .iter()
@@ -342,7 +401,7 @@ fn check_standing(count: u16) -> Result<(), Refusal> {
     }
 }
 
-/// Where the count of a contractor is, from 0 on.
+/// Where the count and the figure of a contractor are, from 0 on.
 fn place_of(contractor: u16) -> Result<usize, Refusal> {
     match usize::from(contractor) {
         number @ 1..=CONTRACTORS => Ok(number - 1),
@@ -363,6 +422,30 @@ pub fn covers(granted: u8, asked: u8) -> bool {
         OVERWRITING => asked == OVERWRITING || asked == READING,
         READING => asked == READING,
         _ => false,
+    }
+}
+
+/// The highest right that a figure means: overwriting for 2, and reading for any other.
+pub fn highest(figure: u8) -> u8 {
+    if figure == OVERWRITING {
+        OVERWRITING
+    } else {
+        READING
+    }
+}
+
+/// Whether the right asked for is not above the highest that a figure means. `asked` is
+/// reading or overwriting.
+pub fn within(figure: u8, asked: u8) -> bool {
+    asked <= highest(figure)
+}
+
+/// Refuses a right that is above the highest that a figure means.
+fn check_highest(figure: u8, asked: u8) -> Result<(), Refusal> {
+    if within(figure, asked) {
+        Ok(())
+    } else {
+        Err(Refusal::AboveHighest)
     }
 }
 

@@ -1,6 +1,6 @@
 //! The vectors that the program prints, as plain text; those of `routes` are in
 //! `routes.rs`, those of `grants` in `grants.rs`, and those of `answers` in
-//! `answers.rs` and `page_answers.rs`.
+//! `answers.rs`, `right_answers.rs` and `page_answers.rs`.
 //!
 //! Every subcommand has a generator of its own that starts from seed 1 and
 //! draws bytes for inputs only, in the order in which they are first printed. A

@@ -4,7 +4,7 @@
 //! with toys are taken from a closed form too.
 
 use curupira_reference::answers::{
-    answers_text, check_with, issue_with, queue_with, withdraw_with,
+    answers_text, change_with, check_with, enter_with, issue_with, queue_with, withdraw_with,
 };
 use curupira_reference::cipher::{encrypt, encrypt_with};
 use curupira_reference::generator::Generator;
@@ -13,7 +13,9 @@ use curupira_reference::layers::inverse_theta;
 use curupira_reference::matrix::{Matrix, State};
 use curupira_reference::page_answers::{open_with, seal_with};
 use curupira_reference::pages::{open, page_under, seal};
-use curupira_reference::roll::{counts_from_bytes, counts_to_bytes, Grant, Refusal, Roll};
+use curupira_reference::roll::{
+    counts_from_bytes, counts_to_bytes, in_standing, Grant, Refusal, Roll,
+};
 use curupira_reference::schedule::{accumulated_constant, cipher_key, omega, omega_power};
 use curupira_reference::vectors::{constants_text, hex};
 
@@ -26,12 +28,14 @@ const KEYS: [&str; 3] = [
 
 /// The plain bytes of the grants in the queue, in their order, and the answers if
 /// overwriting and if reading is asked for. 300 is hex 12C. The roll has count 1 for
-/// contractor 1, 2 for contractor 2 and 3 for contractor 3. README.md prints them.
-const QUEUE: [(&str, [&str; 2]); 4] = [
+/// contractor 1, 2 for contractor 2 and 3 for contractor 3, and only contractor 1 may
+/// overwrite. README.md prints them.
+const QUEUE: [(&str, [&str; 2]); 5] = [
     ("000100010000012c02475244", ["0", "0"]),
     ("000100010000012c01475244", ["10", "0"]),
     ("000200020000012c02475244", ["20", "20"]),
     ("000300010000012c02475244", ["23", "23"]),
+    ("000300030000012c02475244", ["25", "0"]),
 ];
 
 /// The lines of a name, as they are printed.
@@ -82,58 +86,74 @@ fn states(digits: &str) -> Vec<State> {
         .collect()
 }
 
+/// The names of the lines in their order, with how many there are of each.
+const GROUPS: [(&str, usize); 32] = [
+    ("limits", 3),
+    ("roll", 1),
+    ("rollbytes", 1),
+    ("empty", 1),
+    ("entry", 5),
+    ("placed", 3),
+    ("block", 1),
+    ("stage", 9),
+    ("closing", 3),
+    ("constant", 18),
+    ("list", 1),
+    ("turned", 1),
+    ("plain", 2),
+    ("covers", 16),
+    ("highest", 10),
+    ("judged", 20),
+    ("walk", 11),
+    ("lent", 9),
+    ("walked", 14),
+    ("broken", 10),
+    ("standing", 7),
+    ("changed", 25),
+    ("queued", 11),
+    ("queue", 2),
+    ("order", 24),
+    ("chain", 1),
+    ("pair", 9),
+    ("form", 16),
+    ("pagewith", 5),
+    ("altered", 14),
+    ("padded", 19),
+    ("order", 8),
+];
+
 #[test]
 fn the_lines_stand_in_the_documented_order() {
     let text = answers_text().expect("all keys have allowed lengths");
     assert!(text.ends_with('\n'));
     let names = text.lines().map(|line| line.split(' ').next());
-    let groups = [
-        ("limits", 3),
-        ("roll", 1),
-        ("rollbytes", 1),
-        ("block", 1),
-        ("stage", 9),
-        ("closing", 3),
-        ("constant", 18),
-        ("list", 1),
-        ("turned", 1),
-        ("plain", 2),
-        ("covers", 16),
-        ("judged", 10),
-        ("walk", 11),
-        ("lent", 9),
-        ("walked", 14),
-        ("broken", 10),
-        ("standing", 7),
-        ("queued", 11),
-        ("queue", 2),
-        ("order", 17),
-        ("chain", 1),
-        ("pair", 9),
-        ("form", 16),
-        ("pagewith", 5),
-        ("altered", 14),
-        ("padded", 19),
-        ("order", 8),
-    ];
-    let documented = groups
+    let documented = GROUPS
         .iter()
         .flat_map(|(name, count)| vec![Some(*name); *count]);
     assert!(names.eq(documented));
-    assert_eq!(text.lines().count(), 219);
+    assert_eq!(text.lines().count(), 280);
 }
 
 /// The lines that README.md prints.
 #[test]
 fn the_answers_start_as_documented() {
     let text = answers_text().expect("all keys have allowed lengths");
-    let first: Vec<&str> = text.lines().take(7).collect();
+    let first: Vec<&str> = text.lines().take(16).collect();
     let documented = [
         "limits 12 10 11",
         "limits 18 14 17",
         "limits 24 18 23",
         "roll 01020304fffe0001 258 772 65534 1",
         "rollbytes 1 256 4660 65534 000101001234fffe",
+        "empty 600 0 0 1 1",
+        "entry 1 1 149 1",
+        "entry 2 515 150 1",
+        "entry 105 53457 2 2",
+        "entry 126 64000 23 1",
+        "entry 200 37780 97 1",
+        "placed 1 258 2 1 2 2",
+        "placed 2 772 255 3 4 255",
+        "placed 200 65534 2 255 254 2",
         "block 000102030405060708090a0b 00030609 0104070a 0205080b",
         "stage 0f1e2d3c4b5a69788796a5b4 1 c33dc23e2e7b71926d52ae37 343dc26c2e7b65926d0dae37",
     ];
@@ -197,11 +217,92 @@ fn the_counts_read_are_those_of_contractors_1_and_on() {
     in_bytes[398] = 0x56;
     in_bytes[399] = 0x78;
     let counts = counts_from_bytes(&in_bytes).expect("the number of bytes is even");
-    let roll = Roll::with_counts(counts.try_into().expect("there are 200 counts"));
+    let roll = Roll::with_entries(counts.try_into().expect("there are 200 counts"), [1; 200]);
+    assert_eq!(roll.to_bytes()[..400], in_bytes);
     assert_eq!(roll.count(1), Ok(0x1234));
     assert_eq!(roll.count(2), Ok(0));
     assert_eq!(roll.count(199), Ok(0));
     assert_eq!(roll.count(200), Ok(0x5678));
+}
+
+/// Bytes 0 to 399 of an empty roll are 0, bytes 400 to 599 are 1.
+#[test]
+fn the_empty_roll_is_as_written_by_hand() {
+    assert_eq!(lines_of("empty"), ["empty 600 0 0 1 1"]);
+    let bytes = Roll::new().to_bytes();
+    assert_eq!(bytes.len(), 600);
+    assert!(bytes[..400].iter().all(|byte| *byte == 0));
+    assert!(bytes[400..].iter().all(|byte| *byte == 1));
+}
+
+/// Byte i is i mod 251, so that byte 251 is 0 and byte 502 is 0 again. Contractor 1 has
+/// bytes 0, 1 and 400, which are 0, 1 and 149. Contractor 2 has 2, 3 and 150; 515 is
+/// 2 * 256 + 3. Contractor 105 has bytes 208, 209 and 504, the last of which is 2; 53457 is
+/// 208 * 256 + 209. Contractor 126 has bytes 250, 251 and 525, which are 250, 0 and 23;
+/// 64000 is 250 * 256. Contractor 200 has bytes 398, 399 and 599, which are 147, 148 and
+/// 97; 37780 is 147 * 256 + 148.
+#[test]
+fn the_entries_are_as_worked_out_by_hand() {
+    let written = [
+        "entry 1 1 149 1",
+        "entry 2 515 150 1",
+        "entry 105 53457 2 2",
+        "entry 126 64000 23 1",
+        "entry 200 37780 97 1",
+    ];
+    assert_eq!(lines_of("entry"), written);
+}
+
+/// In the roll of `entry`, the places of all entries by the words of README.md. The
+/// figures are 149 to 250 for contractors 1 to 102, and from there on 0, 1, 2, ...; so 2 is
+/// the figure of contractor 105 alone.
+#[test]
+fn the_entries_are_those_of_their_places() {
+    let in_bytes: Vec<u8> = (0..600).map(|i| (i % 251) as u8).collect();
+    let roll = Roll::from_bytes(&in_bytes).expect("600 bytes");
+    let printed = lines_of("entry");
+    for contractor in 1..=200 {
+        let c = usize::from(contractor);
+        let count = 256 * ((2 * (c - 1)) % 251) + (2 * (c - 1) + 1) % 251;
+        let figure = if c <= 102 { 148 + c } else { c - 103 };
+        assert_eq!(roll.count(contractor), Ok(count as u16));
+        assert_eq!(roll.figure(contractor), Ok(figure as u8));
+        assert_eq!(figure == 2, c == 105);
+        let highest = if c == 105 { 2 } else { 1 };
+        let line = format!("entry {} {} {} {}", c, count, figure, highest);
+        let named = [1, 2, 105, 126, 200].contains(&c);
+        assert_eq!(printed.contains(&line), named);
+    }
+}
+
+/// 258 is hex 0102, 772 is hex 0304, and 65534 is hex FFFE.
+#[test]
+fn the_placed_entries_are_as_written_by_hand() {
+    let written = [
+        "placed 1 258 2 1 2 2",
+        "placed 2 772 255 3 4 255",
+        "placed 200 65534 2 255 254 2",
+    ];
+    assert_eq!(lines_of("placed"), written);
+}
+
+/// The bytes stand at 2(c-1), 2(c-1) + 1 and 400 + c - 1, and all others are those of an
+/// empty roll.
+#[test]
+fn the_placed_entries_leave_all_other_bytes_as_in_an_empty_roll() {
+    for line in fields_of("placed") {
+        let [c, count, figure] = [1, 2, 3].map(|k| number(&line[k]));
+        let (mut counts, mut figures) = ([0; 200], [1; 200]);
+        counts[c - 1] = count as u16;
+        figures[c - 1] = figure as u8;
+        let in_bytes = Roll::with_entries(counts, figures).to_bytes();
+        let mut written = [vec![0; 400], vec![1; 200]].concat();
+        let places = [2 * (c - 1), 2 * (c - 1) + 1, 400 + c - 1];
+        for (place, field) in places.iter().zip(&line[4..]) {
+            written[*place] = number(field) as u8;
+        }
+        assert_eq!(in_bytes, written);
+    }
 }
 
 #[test]
@@ -450,21 +551,66 @@ fn what_a_right_covers_is_as_written_by_hand() {
     assert_eq!(lines_of("covers"), written);
 }
 
+/// The figure 2 means overwriting, and 0, 1, 3 and 255 mean reading.
+#[test]
+fn what_is_not_above_the_highest_is_as_written_by_hand() {
+    let written = [
+        "highest 0 1 1",
+        "highest 0 2 0",
+        "highest 1 1 1",
+        "highest 1 2 0",
+        "highest 2 1 1",
+        "highest 2 2 1",
+        "highest 3 1 1",
+        "highest 3 2 0",
+        "highest 255 1 1",
+        "highest 255 2 0",
+    ];
+    assert_eq!(lines_of("highest"), written);
+}
+
+/// An issue to a contractor in standing, by the long key with the most rounds, is refused
+/// just where `highest` says so, and then with 25.
+#[test]
+fn what_is_not_above_the_highest_shows_in_an_issue() {
+    let key = bytes(KEYS[2]);
+    for line in fields_of("highest") {
+        let [figure, asked] = [1, 2].map(|k| number(&line[k]) as u8);
+        let roll = Roll::with_entries([1; 200], [figure; 200]);
+        let issued = roll.issue(&key, 23, 200, 0, asked).map(|_| ());
+        let said = match line[3].as_str() {
+            "1" => Ok(()),
+            _ => Err(Refusal::AboveHighest),
+        };
+        assert_eq!(issued, said);
+    }
+}
+
 /// Contractor 7, count 1 and size block 300, which is hex 12C, are in all grants.
 /// README.md prints these lines.
 #[test]
 fn the_judgements_are_as_written_by_hand() {
     let written = [
-        "judged 000700010000012c02475244 1 300 1 0 7 1",
-        "judged 000700010000012c02475244 1 300 2 0 7 2",
-        "judged 000700010000012c01475244 1 300 1 0 7 1",
-        "judged 000700010000012c01475244 1 300 2 10 0 0",
-        "judged 000700010000012c02475244 1 301 1 9 0 0",
-        "judged 000700010000012c02475244 2 300 1 20 0 0",
-        "judged 000700010000012c02475244 3 300 1 23 0 0",
-        "judged 000700010000012c03475244 1 300 1 8 0 0",
-        "judged 000700010000012c03475244 1 300 2 8 0 0",
-        "judged 000700010000012c00475244 1 300 1 8 0 0",
+        "judged 000700010000012c02475244 1 2 300 1 0 7 1",
+        "judged 000700010000012c02475244 1 2 300 2 0 7 2",
+        "judged 000700010000012c01475244 1 2 300 1 0 7 1",
+        "judged 000700010000012c01475244 1 2 300 2 10 0 0",
+        "judged 000700010000012c02475244 1 2 301 1 9 0 0",
+        "judged 000700010000012c02475244 2 2 300 1 20 0 0",
+        "judged 000700010000012c02475244 3 2 300 1 23 0 0",
+        "judged 000700010000012c03475244 1 2 300 1 8 0 0",
+        "judged 000700010000012c03475244 1 2 300 2 8 0 0",
+        "judged 000700010000012c00475244 1 2 300 1 8 0 0",
+        "judged 000700010000012c02475244 1 0 300 2 25 0 0",
+        "judged 000700010000012c02475244 1 1 300 2 25 0 0",
+        "judged 000700010000012c02475244 1 3 300 2 25 0 0",
+        "judged 000700010000012c02475244 1 255 300 2 25 0 0",
+        "judged 000700010000012c02475244 1 0 300 1 0 7 1",
+        "judged 000700010000012c02475244 1 1 300 1 0 7 1",
+        "judged 000700010000012c02475244 1 255 300 1 0 7 1",
+        "judged 000700010000012c01475244 1 1 300 2 10 0 0",
+        "judged 000700010000012c02475244 3 1 300 2 23 0 0",
+        "judged 000700010000012c02475244 2 1 300 2 20 0 0",
     ];
     assert_eq!(lines_of("judged"), written);
     let readme = include_str!("../README.md");
@@ -472,40 +618,44 @@ fn the_judgements_are_as_written_by_hand() {
 }
 
 /// A judgement does not hang on the key: the long key with the most rounds, and a
-/// roll in which everyone has the count, give the same fields.
+/// roll in which everyone has the count and the figure, give the same fields.
 #[test]
 fn the_judgements_are_the_same_under_another_key() {
     let key = bytes(KEYS[2]);
     for line in fields_of("judged") {
         let count = line[2].parse().expect("a count");
-        let block = line[3].parse().expect("a size block");
-        let right = line[4].parse().expect("a right");
+        let figure = line[3].parse().expect("a figure");
+        let block = line[4].parse().expect("a size block");
+        let right = line[5].parse().expect("a right");
         let grant = encrypt(&key, 23, &bytes(&line[1])).expect("12 bytes");
-        let roll = Roll::with_counts([count; 200]);
+        let roll = Roll::with_entries([count; 200], [figure; 200]);
         let said = match roll.check(&key, 23, &grant, block, right) {
             Ok(accepted) => format!("0 {} {}", accepted.contractor, accepted.right),
             Err(refusal) => format!("{} 0 0", refusal.number()),
         };
-        assert_eq!(line[5..].join(" "), said);
+        assert_eq!(line[6..].join(" "), said);
     }
 }
 
 /// Where only the rights matter, because the count and the size block are those of
-/// the grant, `judged` accepts just what `covers` says.
+/// the grant, `judged` accepts just what both `covers` and `highest` say. Every figure
+/// there is one of `highest`.
 #[test]
-fn the_judgements_agree_with_what_the_rights_cover() {
-    let covers = lines_of("covers");
+fn the_judgements_agree_with_what_the_rights_cover_and_the_highest_right() {
+    let (covers, highest) = (lines_of("covers"), lines_of("highest"));
     let judged = fields_of("judged");
-    let by_rights = judged.iter().filter(|line| line[2..4] == ["1", "300"]);
+    let by_rights = judged
+        .iter()
+        .filter(|line| (line[2].as_str(), line[4].as_str()) == ("1", "300"));
     let mut compared = 0;
     for line in by_rights {
         let granted = bytes(&line[1])[8];
-        let yes = if line[5] == "0" { 1 } else { 0 };
-        let said = format!("covers {} {} {}", granted, line[4], yes);
-        assert!(covers.contains(&said), "{}", said);
+        let covered = covers.contains(&format!("covers {} {} 1", granted, line[5]));
+        let not_above = highest.contains(&format!("highest {} {} 1", line[3], line[5]));
+        assert_eq!(line[6] == "0", covered && not_above, "{:?}", line);
         compared += 1;
     }
-    assert_eq!(compared, 7);
+    assert_eq!(compared, 15);
 }
 
 #[test]
@@ -696,17 +846,84 @@ fn the_standings_are_as_worked_out_by_hand() {
     assert_eq!(lines_of("standing"), written);
 }
 
-/// A contractor can be withdrawn only if in standing, and is refused for being in
-/// standing only when entered.
+/// A contractor can be withdrawn and the right be changed only if in standing, and is
+/// refused for being in standing only when entered.
 #[test]
 fn the_standings_show_in_the_calls_of_the_roll() {
     for line in fields_of("standing") {
         let count = line[1].parse().expect("a count");
-        let mut roll = Roll::with_counts([count; 200]);
-        let entered = roll.enter(7);
+        let roll = Roll::with_entries([count; 200], [1; 200]);
+        let entered = roll.clone().enter(7, 2);
         assert_eq!(entered == Err(Refusal::InStanding), line[2] == "yes");
-        let mut roll = Roll::with_counts([count; 200]);
-        assert_eq!(roll.withdraw(7).is_ok(), line[2] == "yes");
+        assert_eq!(roll.clone().withdraw(7).is_ok(), line[2] == "yes");
+        assert_eq!(roll.clone().change_right(7, 2).is_ok(), line[2] == "yes");
+    }
+}
+
+/// The fields of the lines `changed`: the call, the contractor, the right that is given;
+/// the count and the figure before; the number; the count and the figure after. README.md
+/// prints these lines.
+#[test]
+fn the_changes_are_as_worked_out_by_hand() {
+    let written = [
+        "changed enter 7 1 0 1 0 1 1",
+        "changed enter 7 2 0 1 0 1 2",
+        "changed enter 7 1 2 255 0 3 1",
+        "changed enter 7 2 2 255 0 3 2",
+        "changed enter 7 0 2 255 7 2 255",
+        "changed enter 7 3 2 255 7 2 255",
+        "changed enter 7 2 1 255 21 1 255",
+        "changed enter 7 2 65534 3 22 65534 3",
+        "changed enter 7 2 65535 3 22 65535 3",
+        "changed right 200 1 1 1 0 1 1",
+        "changed right 200 2 1 1 0 1 2",
+        "changed right 200 1 1 2 0 1 1",
+        "changed right 200 2 1 2 0 1 2",
+        "changed right 200 1 1 255 0 1 1",
+        "changed right 200 2 1 255 0 1 2",
+        "changed right 200 2 65533 1 0 65533 2",
+        "changed right 200 0 1 3 7 1 3",
+        "changed right 200 3 1 2 7 1 2",
+        "changed right 200 2 0 3 20 0 3",
+        "changed right 200 2 2 3 20 2 3",
+        "changed right 200 2 65535 3 20 65535 3",
+        "changed withdraw 1 - 1 2 0 2 1",
+        "changed withdraw 1 - 1 255 0 2 1",
+        "changed withdraw 1 - 65533 2 0 65534 1",
+        "changed withdraw 1 - 2 2 20 2 2",
+    ];
+    assert_eq!(lines_of("changed"), written);
+    let readme = include_str!("../README.md");
+    assert!(readme.contains(&format!("    {}\n\n", written.join("\n    "))));
+}
+
+/// The calls are made on a roll that is read from bytes. No other byte of it changes. The
+/// right `-` of a withdrawal becomes a number that is not looked at.
+#[test]
+fn the_changes_are_those_of_the_bytes_of_a_roll() {
+    for line in fields_of("changed") {
+        let c = number(&line[2]);
+        let right = line[3].parse().unwrap_or(0);
+        let mut in_bytes = [vec![0; 400], vec![1; 200]].concat();
+        let mut put = |count: &str, figure: &str| {
+            in_bytes[2 * (c - 1)] = (number(count) / 256) as u8;
+            in_bytes[2 * (c - 1) + 1] = (number(count) % 256) as u8;
+            in_bytes[400 + c - 1] = number(figure) as u8;
+            in_bytes.clone()
+        };
+        let before = put(&line[4], &line[5]);
+        let after = put(&line[7], &line[8]);
+        let mut roll = Roll::from_bytes(&before).expect("600 bytes");
+        let made = match line[1].as_str() {
+            "enter" => roll.enter(c as u16, right),
+            "right" => roll.change_right(c as u16, right),
+            _ => roll.withdraw(c as u16),
+        };
+        let said = made.map_or_else(|refusal| refusal.number(), |_| 0);
+        assert_eq!(
+            (said.to_string(), roll.to_bytes()),
+            (line[6].clone(), after)
+        );
     }
 }
 
@@ -750,11 +967,11 @@ fn the_answers_of_the_queue_are_as_worked_out_by_hand() {
     assert_eq!(lines.len(), 2);
     for (k, right) in ["2", "1"].iter().enumerate() {
         let line = &lines[k];
-        assert_eq!(line[1..4], [KEYS[0], "10", "1,2,3"]);
-        assert_eq!(line[4], lines[0][4]);
-        assert_eq!(line[5..7], ["300", *right]);
+        assert_eq!(line[1..5], [KEYS[0], "10", "1,2,3", "2,1,255"]);
+        assert_eq!(line[5], lines[0][5]);
+        assert_eq!(line[6..8], ["300", *right]);
         let answers: Vec<&str> = QUEUE.iter().map(|(_, answers)| answers[k]).collect();
-        assert_eq!(line[7..], answers);
+        assert_eq!(line[8..], answers);
     }
 }
 
@@ -772,7 +989,7 @@ fn the_queue_is_that_of_the_readme() {
 #[test]
 fn the_grants_of_the_queue_decipher_to_the_plain_bytes() {
     let turned = states(&fields_of("turned")[0][3]);
-    let plain: Vec<String> = states(&fields_of("queue")[0][4])
+    let plain: Vec<String> = states(&fields_of("queue")[0][5])
         .iter()
         .map(|grant| encrypt_with(&turned, grant).expect("there are subkeys"))
         .map(|state| hex(&state.to_bytes()))
@@ -781,24 +998,27 @@ fn the_grants_of_the_queue_decipher_to_the_plain_bytes() {
     assert_eq!(plain, written);
 }
 
-/// The roll of a line `queue`: the counts of its fourth field, and zero for all later
-/// contractors.
+/// The roll of a line `queue`: the counts of its fourth field and the figures of its
+/// fifth, and count 0 and figure 1 for all later contractors.
 fn queue_roll(line: &[String]) -> Roll {
-    let mut counts = [0; 200];
+    let (mut counts, mut figures) = ([0; 200], [1; 200]);
     for (place, count) in line[3].split(',').enumerate() {
         counts[place] = count.parse().expect("a count");
     }
-    Roll::with_counts(counts)
+    for (place, figure) in line[4].split(',').enumerate() {
+        figures[place] = figure.parse().expect("a figure");
+    }
+    Roll::with_entries(counts, figures)
 }
 
 #[test]
 fn the_answers_of_the_queue_are_those_of_single_checks() {
     for line in fields_of("queue") {
         let roll = queue_roll(&line);
-        let grants = bytes(&line[4]);
-        let [block, right] = [5, 6].map(|k| number(&line[k]));
-        assert_eq!(grants.len(), 12 * line[7..].len());
-        for (grant, answer) in grants.chunks(12).zip(&line[7..]) {
+        let grants = bytes(&line[5]);
+        let [block, right] = [6, 7].map(|k| number(&line[k]));
+        assert_eq!(grants.len(), 12 * line[8..].len());
+        for (grant, answer) in grants.chunks(12).zip(&line[8..]) {
             let key = bytes(&line[1]);
             let checked = roll.check(&key, 10, grant, block as u32, right as u8);
             let said = checked.map_or_else(|refusal| refusal.number(), |_| 0);
@@ -817,22 +1037,28 @@ fn the_answers_of_the_queue_are_the_same_under_another_key() {
         .flat_map(|(plain, _)| encrypt(&key, 23, &bytes(plain)).expect("12 bytes"))
         .collect();
     for line in fields_of("queue") {
-        let right = number(&line[6]) as u8;
-        let mut answers = [0xFF; 4];
+        let right = number(&line[7]) as u8;
+        let mut answers = [0xFF; 5];
         let called = queue_roll(&line).check_queue(&key, 23, &grants, 300, right, &mut answers);
         assert_eq!(called, Ok(()));
-        assert_eq!(answers.map(|answer| answer.to_string()), line[7..]);
+        assert_eq!(answers.map(|answer| answer.to_string()), line[8..]);
     }
 }
 
 #[test]
 fn the_orders_are_as_written_by_hand() {
     let written = [
+        "order enter 6 7 6",
+        "order enter 7 21 7",
+        "order enter 7 22 7",
+        "order right 6 7 6",
+        "order right 7 20 7",
         "order withdraw 6 20 6",
         "order issue 1 2 1",
         "order issue 2 6 2",
         "order issue 6 7 6",
         "order issue 7 20 7",
+        "order issue 20 25 20",
         "order check 1 2 1",
         "order check 2 3 2",
         "order check 3 7 3",
@@ -841,6 +1067,7 @@ fn the_orders_are_as_written_by_hand() {
         "order check 9 10 9",
         "order check 10 20 10",
         "order check 20 23 20",
+        "order check 23 25 23",
         "order queue 1 2 1",
         "order queue 2 3 2",
         "order queue 3 4 3",
@@ -871,27 +1098,29 @@ fn check_reasons(order: &[u8], call_with: fn(&[u8]) -> String) {
 
 #[test]
 fn each_reason_of_a_pair_holds_by_itself() {
+    check_reasons(&[6, 7, 21], enter_with);
+    check_reasons(&[6, 7, 22], enter_with);
+    check_reasons(&[6, 7, 20], change_with);
     check_reasons(&[6, 20], withdraw_with);
-    check_reasons(&[1, 2, 6, 7, 20], issue_with);
-    check_reasons(&[1, 2, 3, 7, 8, 9, 10, 20, 23], check_with);
+    check_reasons(&[1, 2, 6, 7, 20, 25], issue_with);
+    check_reasons(&[1, 2, 3, 7, 8, 9, 10, 20, 23, 25], check_with);
     check_reasons(&[1, 2, 3, 4, 7], queue_with);
     check_reasons(&[1, 2, 4, 12], seal_with);
     check_reasons(&[1, 2, 4, 11, 13], open_with);
 }
 
-/// Why there are no lines for enter: no contractor outside 1 to 200 has a count, and
-/// no count is both one in standing and one that is full.
+/// Why there is no line `order enter 21 22`: no count is both one in standing and one that
+/// is full.
 #[test]
-fn no_two_reasons_for_enter_hold_together() {
-    for contractor in (0..=65_535).filter(|number| !(1..=200).contains(number)) {
-        let count = Roll::new().count(contractor);
-        assert_eq!(count, Err(Refusal::NoSuchContractor));
+fn the_reasons_21_and_22_for_enter_do_not_hold_together() {
+    for count in 0..=65_535 {
+        assert!(!in_standing(count) || count < 65_534);
     }
     for full in [65_534, 65_535] {
-        let mut roll = Roll::with_counts([full; 200]);
+        let mut roll = Roll::with_entries([full; 200], [2; 200]);
+        assert_eq!(roll.enter(7, 2), Err(Refusal::Full));
         assert_eq!(roll.withdraw(7), Err(Refusal::NotInStanding));
     }
-    assert!(lines_of("order enter").is_empty());
 }
 
 /// The page of the line for 13 and 11: size block 300 is hex 12C, page number 7, 17 used
@@ -1247,7 +1476,7 @@ fn the_answers_about_pages_are_those_of_the_readme() {
 fn the_lines_about_pages_are_those_of_the_readme() {
     let readme = include_str!("../README.md");
     let orders = lines_of("order");
-    for lines in [&lines_of("chain")[..], &lines_of("form"), &orders[17..]] {
+    for lines in [&lines_of("chain")[..], &lines_of("form"), &orders[24..]] {
         assert!(readme.contains(&format!("    {}\n\n", lines.join("\n    "))));
     }
     let rows: Vec<String> = fields_of("pagewith")

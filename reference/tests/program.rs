@@ -338,10 +338,13 @@ fn routes_draws_its_inputs_as_documented() {
     assert!(rest.next().is_none());
 }
 
-/// The names of the lines of a life after the first, in their order.
-const LIFE: [&str; 15] = [
-    "issue", "enter", "issue", "check", "check", "check", "enter", "withdraw", "check", "withdraw",
-    "enter", "check", "issue", "check", "check",
+/// The calls of a life in their order, as far as they are the same in every life: R is the
+/// right of the life, and O the other one.
+const LIFE: [&str; 32] = [
+    "issue R", "right 2", "enter R", "issue R", "check R", "check R", "check O", "issue O",
+    "right 1", "check 2", "check 1", "issue 2", "right 2", "check R", "issue 2", "check 2",
+    "right 1", "check 2", "check 1", "right 3", "enter R", "withdraw", "check R", "withdraw",
+    "right 1", "enter R", "check R", "check 2", "issue R", "check R", "check R", "check 2",
 ];
 
 /// The number that hexadecimal digits stand for.
@@ -364,8 +367,10 @@ fn grants_draws_its_inputs_as_documented() {
                 let right = 1 + value(&draw.hex(1)) % 2;
                 let numbers = format!("{} {} {} {}", rounds, contractor, block, right);
                 assert_eq!(next().join(" "), format!("life {} {}", key, numbers));
-                for name in LIFE {
-                    assert_eq!(next()[0], name);
+                for call in LIFE {
+                    let call = call.replace('R', &right.to_string());
+                    let call = call.replace('O', &(3 - right).to_string());
+                    assert!(next().join(" ").starts_with(&format!("{} ", call)));
                 }
                 for position in 0..12 {
                     assert_eq!(next()[..2], ["damaged", &position.to_string()]);
@@ -413,10 +418,13 @@ fn opened(keys: &[&str; 2], rounds: usize, page: &str) -> Vec<u8> {
 
 /// The names of the lines of answers, each with how many there are of it and how many
 /// fields they have, the name being one of them.
-const ANSWERS: [(&str, usize, usize); 27] = [
+const ANSWERS: [(&str, usize, usize); 32] = [
     ("limits", 3, 4),
     ("roll", 1, 6),
     ("rollbytes", 1, 6),
+    ("empty", 1, 6),
+    ("entry", 5, 5),
+    ("placed", 3, 7),
     ("block", 1, 5),
     ("stage", 9, 5),
     ("closing", 3, 3),
@@ -425,15 +433,17 @@ const ANSWERS: [(&str, usize, usize); 27] = [
     ("turned", 1, 4),
     ("plain", 2, 6),
     ("covers", 16, 4),
-    ("judged", 10, 8),
+    ("highest", 10, 4),
+    ("judged", 20, 9),
     ("walk", 11, 6),
     ("lent", 9, 4),
     ("walked", 14, 5),
     ("broken", 10, 3),
     ("standing", 7, 3),
+    ("changed", 25, 9),
     ("queued", 11, 3),
-    ("queue", 2, 11),
-    ("order", 17, 5),
+    ("queue", 2, 13),
+    ("order", 24, 5),
     ("chain", 1, 6),
     ("pair", 9, 4),
     ("form", 16, 6),
@@ -498,11 +508,12 @@ fn answers_lends_holders_of_the_keys_of_the_documentation() {
 }
 
 /// The grants of the queue in the documentation: contractor, count, size block and right.
-const QUEUE: [(u16, u16, u32, u8); 4] = [
+const QUEUE: [(u16, u16, u32, u8); 5] = [
     (1, 1, 300, 2),
     (1, 1, 300, 1),
     (2, 2, 300, 2),
     (3, 1, 300, 2),
+    (3, 3, 300, 2),
 ];
 
 #[test]
@@ -517,10 +528,10 @@ fn answers_queues_the_grants_of_the_documentation() {
     let printed = lines("answers");
     let queues: Vec<&Vec<String>> = printed.iter().filter(|line| line[0] == "queue").collect();
     for (line, right) in queues.iter().zip(["2", "1"]) {
-        assert_eq!(line[1..4], [key, "10", "1,2,3"]);
-        assert_eq!(bytes(&line[4]), grants);
-        assert_eq!(line[5..7], ["300", right]);
+        assert_eq!(line[1..5], [key, "10", "1,2,3", "2,1,255"]);
+        assert_eq!(bytes(&line[5]), grants);
+        assert_eq!(line[6..8], ["300", right]);
     }
-    assert_eq!(queues[0][7..].join(" "), "0 10 20 23");
-    assert_eq!(queues[1][7..].join(" "), "0 0 20 23");
+    assert_eq!(queues[0][8..].join(" "), "0 10 20 23 25");
+    assert_eq!(queues[1][8..].join(" "), "0 0 20 23 0");
 }

@@ -1,18 +1,16 @@
 -- States and subkey lists as bytes, and back.
-use mathlib.Core.Path.{_≡_, refl, sym, ap, ap₂, _∙_, subst}
-use mathlib.Core.Logic.{inl, inr}
+use mathlib.Core.Path.{_≡_, refl, sym, ap, ap₂, _∙_}
 use mathlib.Core.List.{List, [], _∷_, _++_, append-assoc, append-nil}
 use Prim.Native.Nat.{ℕ, zero, suc, _+_, _*_, _/_, _≤_, _<_}
 use native.Mathlib.Nat.{not-suc-le-zero, le-of-suc-le-suc, add-zero, zero-add}
 use native.Mathlib.Omega.{arith}
-use lib.Dec.{lit<}
-use lib.ListN.{length, getD, take, drop, length-append, length-take, length-drop, List·getD-eq-default}
-use lib.Seq.{ext-getD, take-at, take-all, take-add, length-take-le, getD-take, getD-drop, drop-nil, drop-append-add}
-use Rattle.basics.proofs.Tests.{below-or-not}
+use lib.ListN.{length, getD, take, drop, length-append, length-drop}
+use lib.Seq.{ext-getD, take-at, take-all, take-add, length-take-le, drop-nil, drop-append-add}
 use Rattle.layers.specs.State.{State, IsState, built}
 use Rattle.rounds.specs.Rounds.{listedFrom, AllStates}
 use Rattle.block_bytes.specs.Blocks.{stateOf, bytesOf, listStates, listBytes}
 use Rattle.basics.specs.Bytes.{AreBytes}
+use Rattle.basics.proofs.Bytes.{take-bytes, drop-bytes}
 use Rattle.block_bytes.proofs.Lists.{length-states, state-at}
 
 -- ---- a state and its bytes
@@ -98,10 +96,7 @@ listed-states r (suc n) f h = (h r, listed-states (suc r) n f h)
 
 -- a part of bytes is bytes
 pub part-bytes : (n m : ℕ) (xs : List ℕ) → AreBytes xs → AreBytes (take n (drop m xs))
-part-bytes n m xs h i = elim (below-or-not i n) [
-  | inl l ↦ subst (λ (x : ℕ). x < 256) (sym (getD-take n (drop m xs) i 0 l ∙ getD-drop m xs i 0)) (h (m + i))
-  | inr g ↦ subst (λ (x : ℕ). x < 256) (sym (List·getD-eq-default (take n (drop m xs)) 0 (omega (arith, length-take n (drop m xs))))) (lit< tt)
-]
+part-bytes n m xs h = take-bytes n (drop m xs) (drop-bytes m xs h)
 
 pub list-states : (list : List ℕ) → AreBytes list → AllStates (listStates list)
 unfolding listStates

@@ -1,4 +1,4 @@
--- Bytes that are zero: the test of them, as a loop makes it, and zeros put one after the other.
+-- Bytes that are zero: the test of them, as a loop makes it; and one byte put again and again.
 use mathlib.Core.Path.{_≡_, refl, sym, ap, ap₂, _∙_}
 use mathlib.Core.Bool.{Bool, true, false, _&&_}
 use mathlib.Core.List.{List, [], _∷_, _++_, append-assoc, append-nil}
@@ -48,18 +48,18 @@ unfolding allZero
 zeros-both [] ys = refl
 zeros-both (x ∷ xs) ys = ap (λ (b : Bool). eqb x 0 && b) (zeros-both xs ys) ∙ sym (and-assoc (eqb x 0) (allZero xs) (allZero ys))
 
--- ---- zeros put one after the other
-pub cleared-next : (i : ℕ) (out₀ out : List ℕ) → i < length out₀ → out ≡ replicate i 0 ++ drop i out₀
-    → set out i 0 ≡ replicate (i + 1) 0 ++ drop (i + 1) out₀
-cleared-next i out₀ out h e =
-    let l = length-replicate {A = ℕ} i 0 in
-    let r = drop (suc i) out₀ in
-    ap (λ (x : List ℕ). set x i 0) (e ∙ ap (λ (x : List ℕ). replicate i 0 ++ x) (drop-cons out₀ i 0 h))
-    ∙ set-at (replicate i 0) (getD out₀ i 0) r 0 i l
-    ∙ sym (append-assoc (replicate i 0) (0 ∷ []) r)
-    ∙ ap₂ _++_ (replicate-append-replicate i 1 0) (ap (λ (m : ℕ). drop m out₀) (sym (add-one i)))
+-- ---- one byte put again and again
+module _ (b : ℕ) where
+  pub filled-next : (i : ℕ) (out₀ out : List ℕ) → i < length out₀ → out ≡ replicate i b ++ drop i out₀
+      → set out i b ≡ replicate (i + 1) b ++ drop (i + 1) out₀
+  filled-next i out₀ out h e =
+      let r = drop (suc i) out₀ in
+      ap (λ (x : List ℕ). set x i b) (e ∙ ap (λ (x : List ℕ). replicate i b ++ x) (drop-cons out₀ i 0 h))
+      ∙ set-at (replicate i b) (getD out₀ i 0) r b i (length-replicate {A = ℕ} i b)
+      ∙ sym (append-assoc (replicate i b) (b ∷ []) r)
+      ∙ ap₂ _++_ (replicate-append-replicate i 1 b) (ap (λ (m : ℕ). drop m out₀) (sym (add-one i)))
 
-pub cleared-all : (i : ℕ) (out₀ : List ℕ) → i ≡ length out₀ → replicate i 0 ++ drop i out₀ ≡ replicate (length out₀) 0
-cleared-all i out₀ e =
-    ap (λ (x : List ℕ). replicate i 0 ++ x) (drop-of-length-le out₀ {i = i} (omega arith)) ∙ append-nil (replicate i 0)
-    ∙ ap (λ (m : ℕ). replicate m 0) e
+  pub filled-all : (i : ℕ) (out₀ : List ℕ) → i ≡ length out₀ → replicate i b ++ drop i out₀ ≡ replicate (length out₀) b
+  filled-all i out₀ e =
+      ap (λ (x : List ℕ). replicate i b ++ x) (drop-of-length-le out₀ {i = i} (omega arith)) ∙ append-nil (replicate i b)
+      ∙ ap (λ (m : ℕ). replicate m b) e

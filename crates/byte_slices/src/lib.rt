@@ -1,4 +1,4 @@
-// Lent bytes: whether two are the same, whether they are zero from a place on, and zeros in their place.
+// Lent bytes: whether two are the same, whether they are zero from a place on, and one byte in the place of all of them.
 
 ghost use mathlib.Core.Path.{_≡_};
 ghost use lib.ListN.{length, drop, replicate};
@@ -36,13 +36,20 @@ pub fn zeros_from(bytes: &[u8], n: usize) -> bool
     true
 }
 
+// Every byte becomes the one that is given.
+pub fn fill(bytes: &mut [u8], byte: u8)
+    ensures { λ _. ⌜ now (bytes .exit) ≡ replicate (length (now (bytes .entry))) byte ⌝ }
+{
+    let mut i: usize = 0;
+    while i < bytes.len() {
+        bytes[i] = byte;
+        i += 1;
+    }
+}
+
 // Every byte becomes zero.
 pub fn clear(bytes: &mut [u8])
     ensures { λ _. ⌜ now (bytes .exit) ≡ replicate (length (now (bytes .entry))) 0 ⌝ }
 {
-    let mut i: usize = 0;
-    while i < bytes.len() {
-        bytes[i] = 0;
-        i += 1;
-    }
+    fill(bytes, 0);
 }

@@ -18,7 +18,7 @@ use Rattle.roll_bytes.specs.RollBytes.{countsOf, rollLength, rollOf, countsByte
 use Rattle.histories.specs.Histories.{Change, enter, rollAfter}
 use Rattle.histories.proofs.Counts.{zeros-small}
 use Rattle.grant.specs.declared.Verdict.the-variants.{Opens, Refused}
-use Rattle.grant.specs.Grants.{isRight}
+use Rattle.rights.specs.Rights.{isRight}
 use Rattle.issuing.specs.Issuing.{issueTries, issuedGrant}
 use Rattle.checking.specs.Checking.{checkNumber}
 use Rattle.revocation.specs.Claims.{Issued, OpensNothing, IssuedOpens, RevokedNeverOpens, RevokedInTwoRooms}

@@ -7,10 +7,10 @@ use Rattle.refusal.specs.Reasons.{reasonNumber}
 use Rattle.refusal.specs.Claims.{NumbersTellReasons}
 use Rattle.refusal.proofs.Claims.{numbers-tell-reasons}
 use Rattle.refusal.proofs.Reasons.{reason-most}
-use Rattle.grant.specs.declared.Right.{Right}
+use Rattle.rights.specs.declared.Right.{Right}
 use Rattle.grant.specs.declared.Verdict.the-variants.{Opens, Refused}
-use Rattle.grant.specs.Grants.{rightNumber}
-use Rattle.grant.proofs.Rights.{right-numbered, right-tells}
+use Rattle.rights.specs.Rights.{rightNumber}
+use Rattle.rights.proofs.Rights.{right-numbered, right-tells}
 use Rattle.call_claims.specs.Claims.{CodesTellVerdicts}
 
 -- right and contractor from the number

@@ -19,7 +19,7 @@ use Rattle.roll.proofs.Contractors.{a-contractor}
 use Rattle.grant.specs.Grants.{contractorIn}
 use Rattle.judging.specs.Judging.{inputTries, plainTries}
 use Rattle.checking.specs.Checking.{openedGrant, countNow, checkTries, checkNumber, checkContractor, checkRight}
-use Rattle.grant.proofs.Rights.{right-least}
+use Rattle.rights.proofs.Rights.{right-least}
 use Rattle.grant.proofs.Tests.{a-grant}
 use Rattle.revocation.specs.Claims.{Opening, Accepted, ReadingGrant, OpensExactlyWhen, OverwritingOpensReading}
 use Rattle.revocation.proofs.Looks.{ten}

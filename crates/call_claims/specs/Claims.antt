@@ -14,7 +14,8 @@ use Rattle.roll_bytes.specs.RollBytes.{rollLength, rollOf}
 use Rattle.histories.specs.Histories.{Change, enter, withdraw, rollAfter, Withdraws, Merge}
 use Rattle.grant.specs.declared.Verdict.{Verdict}
 use Rattle.grant.specs.declared.Verdict.the-variants.{Opens, Refused}
-use Rattle.grant.specs.Grants.{isRight, contractorIn, verdictNumber, verdictContractor}
+use Rattle.rights.specs.Rights.{isRight}
+use Rattle.grant.specs.Grants.{contractorIn, verdictNumber, verdictContractor}
 use Rattle.checking.specs.Checking.{openedGrant, checkNumber, checkContractor, checkRight}
 use Rattle.revocation.specs.Claims.{Opening, ReadingGrant}
 use Rattle.check_call.specs.CheckCall.{verdictCode, callTries, callCode}

@@ -9,7 +9,8 @@ ghost use Rattle.lists.specs.Lists.{prepareNumber, prepareOutput};
 ghost use Rattle.key_lists.specs.declared.Direction.the-variants.{Enciphering, Deciphering};
 ghost use Rattle.check_call.specs.CheckCall.{callCode};
 ghost use Rattle.queue_call.specs.QueueCall.{callQueueNumber, callQueueOutput};
-ghost use Rattle.roll_calls.specs.RollCalls.{enterCallNumber, enterCallRoll, withdrawCallNumber, withdrawCallRoll};
+ghost use Rattle.roll_calls.specs.RollCalls.{emptyCallNumber, emptyCallOutput, enterCallNumber, enterCallRoll};
+ghost use Rattle.roll_calls.specs.RollCalls.{withdrawCallNumber, withdrawCallRoll, changeCallNumber, changeCallRoll};
 ghost use Rattle.issue_call.specs.IssueCall.{issueCallNumber, issueCallOutput};
 ghost use Rattle.sealing.specs.Sealing.{sealNumber, sealOutput, sealScratch};
 ghost use Rattle.opening.specs.Opening.{openOutput, openScratch};
@@ -152,13 +153,22 @@ pub extern "C" fn gordzila_open_page(
     open_call::open(first_key, second_key, rounds, page, scratch, out)
 }
 
-// Enters a contractor.
+// The empty roll: its bytes to the output.
 #[no_mangle]
-pub extern "C" fn gordzila_enter(roll: &mut [u8], contractor: u32) -> u32
-    ensures { λ r. ⌜ r ≡ enterCallNumber (now (roll .entry)) contractor ⌝ }
-    ensures { λ _. ⌜ now (roll .exit) ≡ enterCallRoll (now (roll .entry)) contractor ⌝ }
+pub extern "C" fn gordzila_empty_roll(out: &mut [u8]) -> u32
+    ensures { λ r. ⌜ r ≡ emptyCallNumber (now (out .entry)) ⌝ }
+    ensures { λ _. ⌜ now (out .exit) ≡ emptyCallOutput (now (out .entry)) ⌝ }
 {
-    roll_calls::enter(roll, contractor)
+    roll_calls::empty_roll(out)
+}
+
+// Enters a contractor with a highest right.
+#[no_mangle]
+pub extern "C" fn gordzila_enter(roll: &mut [u8], contractor: u32, right: u32) -> u32
+    ensures { λ r. ⌜ r ≡ enterCallNumber (now (roll .entry)) contractor right ⌝ }
+    ensures { λ _. ⌜ now (roll .exit) ≡ enterCallRoll (now (roll .entry)) contractor right ⌝ }
+{
+    roll_calls::enter(roll, contractor, right)
 }
 
 // Withdraws a contractor.
@@ -168,6 +178,15 @@ pub extern "C" fn gordzila_withdraw(roll: &mut [u8], contractor: u32) -> u32
     ensures { λ _. ⌜ now (roll .exit) ≡ withdrawCallRoll (now (roll .entry)) contractor ⌝ }
 {
     roll_calls::withdraw(roll, contractor)
+}
+
+// Changes the highest right of a contractor.
+#[no_mangle]
+pub extern "C" fn gordzila_change_right(roll: &mut [u8], contractor: u32, right: u32) -> u32
+    ensures { λ r. ⌜ r ≡ changeCallNumber (now (roll .entry)) contractor right ⌝ }
+    ensures { λ _. ⌜ now (roll .exit) ≡ changeCallRoll (now (roll .entry)) contractor right ⌝ }
+{
+    roll_calls::change_right(roll, contractor, right)
 }
 
 // Issues a grant: twelve bytes to the output.

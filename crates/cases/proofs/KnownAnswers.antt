@@ -40,7 +40,8 @@ use Rattle.pages.proofs.KnownAnswers as P
 use Rattle.page_cases.proofs.KnownAnswers as PC
 use Rattle.roll.specs.declared.Roll.{Roll}
 use Rattle.roll.specs.Roll.{countOf, inStanding}
-use Rattle.grant.specs.Grants.{covers, contractorIn, countIn, sizeBlockIn, isMarked, isGrant}
+use Rattle.rights.specs.Rights.{covers}
+use Rattle.grant.specs.Grants.{contractorIn, countIn, sizeBlockIn, isMarked, isGrant}
 use Rattle.judging.specs.Judging.{inputTries, plainTries}
 use Rattle.checking.specs.Checking.{openedGrant}
 use Rattle.queue.specs.Queue.{queueAnswers}

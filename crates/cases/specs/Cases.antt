@@ -10,8 +10,9 @@ use Rattle.layers.specs.State.{State}
 use Rattle.layers.specs.Layers.{permuted, diffused}
 use Rattle.stages.specs.Columns.{columnRule}
 use Rattle.stages.specs.Stages.{stage}
-use Rattle.grant.specs.declared.Right.the-variants.{Overwriting}
-use Rattle.grant.specs.Grants.{rightNumber, plainGrant}
+use Rattle.rights.specs.declared.Right.the-variants.{Overwriting}
+use Rattle.rights.specs.Rights.{rightNumber}
+use Rattle.grant.specs.Grants.{plainGrant}
 
 -- the diffusion of the column x y z: column 0 of the diffusion of a state that has it there, and other columns elsewhere
 abbrev pub diffusionOf : ℕ → ℕ → ℕ → List ℕ

@@ -12,6 +12,7 @@ use Rattle.refusal.proofs.Reasons.{reason-positive}
 use Rattle.refusal.proofs.Tries.{first-before, first-then}
 use Rattle.refusal.proofs.Ladder.{all-pass}
 use Rattle.refusal.proofs.Answers.{answer-refused, answer-either}
+use Rattle.roll.specs.declared.Entry.{Entry}
 use Rattle.roll.proofs.Contractors.{a-contractor}
 use Rattle.grant.specs.declared.Verdict.{Verdict}
 use Rattle.grant.specs.declared.Verdict.the-variants.{Opens, Refused}
@@ -22,11 +23,11 @@ use Rattle.judging.proofs.Verdicts.{Tells}
 use Rattle.check_call.specs.CheckCall.{verdictCode}
 
 -- a verdict on plain bytes names a contractor of at most 200, or none
-pub contractor-most : (p : List ℕ) (count block right : ℕ) (v : Verdict)
-    → verdictContractor v ≡ answered (first (plainTries p count block right)) (contractorIn p) 0 → verdictContractor v ≤ 200
-contractor-most p count block right v e =
-    subst⁻¹ (λ (n : ℕ). n ≤ 200) e (answer-either (λ (n : ℕ). n ≤ 200) (first (plainTries p count block right)) (contractorIn p) 0
-    (λ z. a-contractor _ (a-grant p (all-pass (plainTries p count block right) refl z .0) .contractor) .most) (omega arith))
+pub contractor-most : (p : List ℕ) (entry : Entry) (block right : ℕ) (v : Verdict)
+    → verdictContractor v ≡ answered (first (plainTries p entry block right)) (contractorIn p) 0 → verdictContractor v ≤ 200
+contractor-most p entry block right v e =
+    subst⁻¹ (λ (n : ℕ). n ≤ 200) e (answer-either (λ (n : ℕ). n ≤ 200) (first (plainTries p entry block right)) (contractorIn p) 0
+    (λ z. a-contractor _ (a-grant p (all-pass (plainTries p entry block right) refl z .0) .contractor) .most) (omega arith))
 
 -- a verdict's number, by its parts
 code-of : (v : Verdict) → verdictCode v ≡ answered (verdictNumber v) (1000 * verdictRight v + verdictContractor v) (verdictNumber v)

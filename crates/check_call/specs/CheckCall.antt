@@ -1,4 +1,4 @@
--- What the C call of the check returns: document 01, "What the store calls" and reason 3.
+-- What the C call of the check returns: document 01, "What the store calls" and reason 3, as request 6 amends them.
 use mathlib.Core.Bool.{_&&_}
 use mathlib.Core.List.{List, _++_}
 use Prim.Native.Nat.{ℕ, _+_, _*_}
@@ -9,9 +9,10 @@ use Rattle.refusal.specs.Tries.{Try, first, answered}
 use Rattle.roll_bytes.specs.RollBytes.{rollLength, rollOf}
 use Rattle.grant.specs.declared.Verdict.{Verdict}
 use Rattle.grant.specs.declared.Verdict.the-variants.{Opens, Refused}
-use Rattle.grant.specs.Grants.{rightNumber, contractorIn}
+use Rattle.rights.specs.Rights.{rightNumber}
+use Rattle.grant.specs.Grants.{contractorIn}
 use Rattle.judging.specs.Judging.{inputTries, plainTries}
-use Rattle.checking.specs.Checking.{openedGrant, countNow}
+use Rattle.checking.specs.Checking.{openedGrant, entryNow}
 
 -- a verdict as a number: the refusal number, or 1,000 times the right plus the contractor
 abbrev pub verdictCode : Verdict → ℕ
@@ -22,7 +23,7 @@ verdictCode (Refused r) = reasonNumber r
 abbrev pub callTries : List ℕ → ℕ → List ℕ → List ℕ → ℕ → ℕ → List Try
 callTries key rounds roll grant size-block right =
     inputTries (length key) rounds (eqb (length roll) rollLength && eqb (length grant) 12) right
-    ++ plainTries (openedGrant key rounds grant) (countNow key rounds (rollOf roll) grant) size-block right
+    ++ plainTries (openedGrant key rounds grant) (entryNow key rounds (rollOf roll) grant) size-block right
 
 -- what it answers: the first reason's number, or 1,000 times the right that was asked for plus the grant's contractor
 unfoldable pub callCode : List ℕ → ℕ → List ℕ → List ℕ → ℕ → ℕ → ℕ

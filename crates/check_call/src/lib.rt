@@ -1,23 +1,13 @@
-// The plotter's call, as the C call of the check makes it: a grant checked on a roll's bytes, of which it reads the one count that it needs.
+// The plotter's call, as the C call of the check makes it: a grant checked on a roll's bytes, of which it reads the one entry that it needs.
 
 ghost use mathlib.Core.Path.{_≡_};
 ghost use mathlib.Core.Bool.{_&&_};
 ghost use Prim.Native.Nat.{_≤_};
 ghost use lib.Dec.{eqb};
 ghost use Rattle.roll_bytes.specs.RollBytes.{rollLength};
-ghost use Rattle.grant.specs.Grants.{rightNumber, verdictContractor};
+ghost use Rattle.grant.specs.Grants.{verdictContractor};
 ghost use Rattle.check_call.specs.CheckCall.{verdictCode, callCode};
-use grant::Right;
 use grant::Verdict;
-
-fn right_number(right: Right) -> u32
-    ensures { λ r. ⌜ r ≡ rightNumber right ⌝ }
-{
-    match right {
-        Right::Reading => 1,
-        Right::Overwriting => 2,
-    }
-}
 
 // A verdict as a number.
 fn verdict_code(verdict: Verdict) -> u32
@@ -27,7 +17,7 @@ fn verdict_code(verdict: Verdict) -> u32
     match verdict {
         Verdict::Opens(grant) => {
             let right = grant.right;
-            1000 * right_number(right) + grant.contractor
+            1000 * rights::right_number(right) + grant.contractor
         }
         Verdict::Refused(reason) => refusal::reason_number(reason),
     }
@@ -54,6 +44,6 @@ pub fn check(key: &[u8], rounds: u32, roll: &[u8], grant: &[u8], size_block: u32
         return refusal::outcome_number(tried);
     }
     let plain = checking::open(key, rounds, grant);
-    let count = roll_bytes::count_in(roll, grant::contractor_in(&plain));
-    verdict_code(judging::judge(&plain, count, size_block, right))
+    let entry = roll_bytes::entry_in(roll, grant::contractor_in(&plain));
+    verdict_code(judging::judge(&plain, entry, size_block, right))
 }

@@ -1,5 +1,5 @@
--- What checking a grant on a roll answers: document 01, "Roll and grant" and the order line "check 1, 2, 3, 7, 8, 9, 10, 20, 23": what is
--- tried of the input, then of the plain bytes.
+-- What checking a grant on a roll answers: document 01, "Roll and grant" and the order line "check 1, 2, 3, 7, 8, 9, 10, 20, 23",
+-- with 25 last, as request 6 has it: what is tried of the input, then of the plain bytes.
 use mathlib.Core.List.{List, _++_}
 use Prim.Native.Nat.{ℕ}
 use lib.Dec.{eqb}
@@ -8,7 +8,8 @@ use Rattle.refusal.specs.Tries.{Try, first, answered}
 use Rattle.key_lists.specs.declared.Direction.the-variants.{Deciphering}
 use Rattle.cipher.specs.Cipher.{cipherBlock}
 use Rattle.roll.specs.declared.Roll.{Roll}
-use Rattle.roll.specs.Roll.{countOf}
+use Rattle.roll.specs.declared.Entry.{Entry}
+use Rattle.roll.specs.Roll.{entryOf}
 use Rattle.grant.specs.Grants.{contractorIn}
 use Rattle.judging.specs.Judging.{inputTries, plainTries}
 
@@ -16,14 +17,14 @@ use Rattle.judging.specs.Judging.{inputTries, plainTries}
 unfoldable pub openedGrant : List ℕ → ℕ → List ℕ → List ℕ
 openedGrant key rounds grant = cipherBlock Deciphering key rounds grant
 
--- the roll's count of the contractor whom a grant names
-abbrev pub countNow : List ℕ → ℕ → Roll → List ℕ → ℕ
-countNow key rounds roll grant = countOf roll (contractorIn (openedGrant key rounds grant))
+-- the roll's entry for the contractor whom a grant names
+abbrev pub entryNow : List ℕ → ℕ → Roll → List ℕ → Entry
+entryNow key rounds roll grant = entryOf roll (contractorIn (openedGrant key rounds grant))
 
 abbrev pub checkTries : List ℕ → ℕ → Roll → List ℕ → ℕ → ℕ → List Try
 checkTries key rounds roll grant size-block right =
     inputTries (length key) rounds (eqb (length grant) 12) right
-    ++ plainTries (openedGrant key rounds grant) (countNow key rounds roll grant) size-block right
+    ++ plainTries (openedGrant key rounds grant) (entryNow key rounds roll grant) size-block right
 
 abbrev pub checkNumber : List ℕ → ℕ → Roll → List ℕ → ℕ → ℕ → ℕ
 checkNumber key rounds roll grant size-block right = first (checkTries key rounds roll grant size-block right)

@@ -57,6 +57,6 @@ pub fn check(
         return Verdict::Refused(reason);
     }
     let plain = open(key, rounds, grant);
-    let count = roll::count_of(roll, grant::contractor_in(&plain));
-    judging::judge(&plain, count, size_block, right)
+    let entry = roll::entry_of(roll, grant::contractor_in(&plain));
+    judging::judge(&plain, entry, size_block, right)
 }

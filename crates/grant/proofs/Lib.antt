@@ -1,3 +1,2 @@
-pub mod Rights
 pub mod Tests
 pub mod KnownAnswers

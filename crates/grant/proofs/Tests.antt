@@ -5,7 +5,8 @@ use mathlib.Core.List.{List}
 use Prim.Native.Nat.{ℕ}
 use Rattle.basics.proofs.Tests.{and-first, and-second}
 use Rattle.roll.specs.Roll.{isContractor}
-use Rattle.grant.specs.Grants.{isRight, contractorIn, rightIn, isMarked, isGrant}
+use Rattle.rights.specs.Rights.{isRight}
+use Rattle.grant.specs.Grants.{contractorIn, rightIn, isMarked, isGrant}
 
 module _ (p : List ℕ) where
   pub record Whole : Type 0 where

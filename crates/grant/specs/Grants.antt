@@ -1,5 +1,5 @@
 -- Grants and verdicts: document 01, "Roll and grant". A grant's plain bytes name contractor, count, size block and right.
-use mathlib.Core.Bool.{Bool, _&&_, _||_}
+use mathlib.Core.Bool.{Bool, _&&_}
 use mathlib.Core.List.{List, [], _∷_, _++_}
 use Prim.Native.Nat.{ℕ}
 use lib.Dec.{eqb}
@@ -7,24 +7,9 @@ use lib.ListN.{getD}
 use Rattle.refusal.specs.Reasons.{reasonNumber}
 use Rattle.numbers.specs.Numbers.{twoFrom, fourFrom, twoBytes, fourBytes}
 use Rattle.roll.specs.Roll.{isContractor}
-use Rattle.grant.specs.declared.Right.{Right}
-use Rattle.grant.specs.declared.Right.the-variants.{Reading, Overwriting}
+use Rattle.rights.specs.Rights.{rightNumber, isRight}
 use Rattle.grant.specs.declared.Verdict.{Verdict}
 use Rattle.grant.specs.declared.Verdict.the-variants.{Opens, Refused}
-
--- ---- rights
-abbrev pub rightNumber : Right → ℕ
-rightNumber Reading = 1
-rightNumber Overwriting = 2
-
--- 1 reading, 2 overwriting
-abbrev pub isRight : ℕ → Bool
-isRight r = eqb r 1 || eqb r 2
-
--- what a grant's right covers, the one asked for being the second number: reading is covered by both, overwriting by overwriting alone. What is
--- no right covers nothing and is covered by nothing
-unfoldable pub covers : ℕ → ℕ → Bool
-covers granted asked = (eqb asked 1 && isRight granted) || (eqb asked 2 && eqb granted 2)
 
 -- ---- plain bytes, numbers big end first
 -- 2 contractor, 2 count, 4 size block number, 1 right, then 47 52 44

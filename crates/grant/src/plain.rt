@@ -2,36 +2,10 @@
 
 ghost use mathlib.Core.Path.{_≡_};
 ghost use mathlib.Core.Bool.{true};
-ghost use Rattle.grant.specs.Grants.{rightNumber, isRight, covers, plainGrant, contractorIn, countIn, sizeBlockIn, rightIn, isMarked, isGrant};
-use crate::Right;
+ghost use Rattle.rights.specs.Rights.{isRight};
+ghost use Rattle.grant.specs.Grants.{plainGrant, contractorIn, countIn, sizeBlockIn, rightIn, isMarked, isGrant};
 use basics::both;
-use basics::either;
-
-pub fn is_right(r: u32) -> bool
-    ensures { λ b. ⌜ b ≡ isRight r ⌝ }
-{
-    either(r == 1, r == 2)
-}
-
-// Whether a grant's right covers the one asked for.
-pub fn covers(granted: u32, asked: u32) -> bool
-    ensures { λ b. ⌜ b ≡ covers granted asked ⌝ }
-{
-    either(
-        both(asked == 1, is_right(granted)),
-        both(asked == 2, granted == 2),
-    )
-}
-
-pub fn right_of(r: u32) -> Right
-    requires { ⌜ isRight r ≡ true ⌝ }
-    ensures { λ x. ⌜ rightNumber x ≡ r ⌝ }
-{
-    if r == 1 {
-        return Right::Reading;
-    }
-    Right::Overwriting
-}
+use rights::is_right;
 
 pub fn plain_grant(contractor: u32, count: u16, size_block: u32, right: u32) -> [u8; 12]
     requires { ⌜ isRight right ≡ true ⌝ }

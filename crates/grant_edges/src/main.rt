@@ -2,7 +2,7 @@
 // no leave to write was left alone. The rows have each reason for refusing alone, each two that can hold together, and both sides of every
 // limit (tools/expected-grants).
 
-use grant::Right;
+use rights::Right;
 use grant::Verdict;
 use refusal::Outcome;
 use roll::Roll;

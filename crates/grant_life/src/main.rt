@@ -1,7 +1,7 @@
 // Lives of grants: a contractor is entered, a grant issued, opened, refused where it should be, and refused for ever after the contractor's
 // withdrawal. Prints each call's answer in the format of the independent program's `grants` (reference/README.md).
 
-use grant::Right;
+use rights::Right;
 use grant::Verdict;
 use refusal::Outcome;
 use roll::Roll;

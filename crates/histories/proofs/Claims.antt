@@ -1,38 +1,49 @@
 -- A term of each type of specs/Claims.antt.
-use mathlib.Core.Path.{refl, sym, ap, _∙_}
-use Rattle.refusal.proofs.Answers.{answer-refused}
-use Rattle.roll.specs.Roll.{countOf, inStanding, counted}
-use Rattle.roll_changes.specs.Changes.{enterTries, enterNumber, enteredRoll, withdrawTries, withdrawNumber, withdrawnRoll}
-use Rattle.histories.specs.Claims.{CountsNeverFall, OthersCountsStay, RefusedChangesNothing, CallsCount}
-use Rattle.histories.specs.Claims.{NothingWraps, NobodyComesBack, WithdrawalCounts, WithdrawsCounts}
-use Rattle.histories.proofs.Counts.{entering, withdrawing, after-grows, changed-other, entered-own, withdrawn-own, entered-stands}
-use Rattle.histories.proofs.Counts.{withdrawn-out, spent-out, after-roll, empty-roll, counted-up, asked-counts, spent-stays, not-back}
+use mathlib.Core.Path.{ap, _∙_}
+use Rattle.roll.specs.declared.Entry.{Entry}
+use Rattle.roll.specs.Roll.{countOf, inStanding}
+use Rattle.histories.specs.Histories.{enter, change, withdraw, changed}
+use Rattle.histories.specs.Claims.{CountsNeverFall, ChangesMoveNoCount, OthersEntriesStay, RefusedChangesNothing, CallsCount, CallsSetRights}
+use Rattle.histories.specs.Claims.{NothingWraps, NobodyComesBack, WithdrawalCounts, WithdrawsCounts, StandingStays, NotRaisedUnasked}
+use Rattle.histories.proofs.Calls.{entering, withdrawing, changed-other, changed-own, changed-refused, after-roll, empty-roll}
+use Rattle.histories.proofs.Counts.{after-grows, right-moves-none, entered-own, withdrawn-own, entered-stands}
+use Rattle.histories.proofs.Counts.{withdrawn-out, spent-out, counted-up, asked-counts, spent-stays, not-back}
+use Rattle.histories.proofs.Demoted.{stays, stays-low}
 
 pub counts-never-fall : CountsNeverFall
 unfolding CountsNeverFall
 counts-never-fall = after-grows
 
-pub others-counts-stay : OthersCountsStay
-unfolding OthersCountsStay
-others-counts-stay h roll d hd n = changed-other h roll d n
+pub changes-move-no-count : ChangesMoveNoCount
+unfolding ChangesMoveNoCount
+changes-move-no-count = right-moves-none
+
+pub others-entries-stay : OthersEntriesStay
+unfolding OthersEntriesStay
+others-entries-stay h roll d hd n = changed-other h roll d n
 
 pub refused-changes-nothing : RefusedChangesNothing
-unfolding RefusedChangesNothing enteredRoll withdrawnRoll
-refused-changes-nothing roll c = record {
-  enter = λ h. sym (answer-refused (enterTries c (countOf roll c)) (enterNumber roll c) (counted roll c) roll h refl);
-  withdraw = λ h. sym (answer-refused (withdrawTries c (countOf roll c)) (withdrawNumber roll c) (counted roll c) roll h refl);
-}
+unfolding RefusedChangesNothing
+refused-changes-nothing = changed-refused
 
 pub calls-count : CallsCount
 unfolding CallsCount
 calls-count roll r c = record {
-  entered = λ e.
-      let o = entered-own roll r c e in
-      let w = entering roll c e in
+  entered = λ right e.
+      let o = entered-own roll r c right e in
+      let w = entering roll c right e in
       (o, ap inStanding o ∙ entered-stands (countOf roll c) (w .out) (w .below));
   withdrawn = λ e.
       let o = withdrawn-own roll r c e in
       (o, ap inStanding o ∙ withdrawn-out (countOf roll c) (withdrawing roll c e .standing));
+}
+
+pub calls-set-rights : CallsSetRights
+unfolding CallsSetRights changed
+calls-set-rights roll r c = record {
+  entered = λ right e. ap (λ (x : Entry). x .figure) (changed-own (enter c right) roll r e);
+  changed = λ right e. ap (λ (x : Entry). x .figure) (changed-own (change c right) roll r e);
+  withdrawn = λ e. ap (λ (x : Entry). x .figure) (changed-own (withdraw c) roll r e);
 }
 
 pub nothing-wraps : NothingWraps
@@ -54,3 +65,11 @@ withdrawal-counts = counted-up
 pub withdraws-counts : WithdrawsCounts
 unfolding WithdrawsCounts
 withdraws-counts = asked-counts
+
+pub standing-stays : StandingStays
+unfolding StandingStays
+standing-stays hs roll r c s n = stays hs roll c s n
+
+pub not-raised-unasked : NotRaisedUnasked
+unfolding NotRaisedUnasked
+not-raised-unasked = stays-low

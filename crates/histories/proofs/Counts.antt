@@ -1,123 +1,52 @@
 -- Counts over a call and over a list of calls.
 use mathlib.Core.Path.{_≡_, refl, sym, ap, _∙_, subst}
-use mathlib.Core.Bool.{Bool, true, false, false≢true}
+use mathlib.Core.Bool.{Bool, true, false, cond, false≢true}
 use mathlib.Core.List.{List, [], _∷_}
-use Prim.Native.Nat.{ℕ, zero, suc, _+_, _-_, _%_, _≤_, _<_}
+use Prim.Native.Nat.{ℕ, _+_, _-_, _%_, _≤_, _<_}
 use native.Mathlib.Omega.{arith}
-use lib.Dec.{eqb, lit<}
-use lib.ListN.{getD, set, replicate, length-set, length-replicate}
-use lib.Seq.{getD-set-same, getD-set-other}
-use borrow.Author.Tests.{ltb-true, not-true, eqb-true, eqb-false}
+use lib.Dec.{eqb}
+use lib.ListN.{getD}
+use borrow.Author.Tests.{eqb-true, eqb-false}
 use Rattle.refusal.proofs.Tries.{none-given}
-use Rattle.refusal.proofs.Ladder.{all-pass}
-use Rattle.refusal.proofs.Answers.{answer-done, answer-either}
 use Rattle.roll.specs.declared.Roll.{Roll}
-use Rattle.roll.specs.Roll.{emptyRoll, isContractor, countOf, inStanding, counted}
-use Rattle.roll_changes.specs.Changes.{enterTries, enterNumber, enteredRoll, withdrawTries, withdrawNumber, withdrawnRoll}
-use Rattle.roll.proofs.Contractors.{a-contractor, count-is, nobody, a-standing, is-standing}
-use Rattle.histories.specs.Histories.{Change, enter, withdraw, contractorOf, changed, rollAfter, Withdrawn, here, later}
+use Rattle.roll.specs.declared.Entry.{Entry}
+use Rattle.roll.specs.Roll.{isContractor, countOf, inStanding}
+use Rattle.roll_changes.specs.Changes.{enterNumber, enteredRoll, withdrawTries, withdrawNumber, withdrawnRoll, changedRoll}
+use Rattle.roll.proofs.Contractors.{a-standing, is-standing}
+use Rattle.roll.proofs.Entries.{counts-kept}
+use Rattle.histories.specs.Histories.{Change, enter, change, withdraw, contractorOf, numberOf, changed, rollAfter, Withdrawn, here, later}
 use Rattle.histories.specs.Histories.{Withdraws, now-asked, asked-later, Merge, left, right, IsRoll}
+use Rattle.histories.proofs.Calls.{entering, withdrawing, changing, changed-either, changed-grows, changed-other, changed-own, changed-roll}
 
--- ---- a greater number at a place of a list
-raise-grows : (xs : List ℕ) (i j v : ℕ) → getD xs i 0 ≤ v → getD xs j 0 ≤ getD (set xs i v) j 0
-raise-grows [] i j v h = omega arith
-raise-grows (x ∷ xs) zero zero v h = omega arith
-raise-grows (x ∷ xs) zero (suc j) v h = omega arith
-raise-grows (x ∷ xs) (suc i) zero v h = omega arith
-raise-grows (x ∷ xs) (suc i) (suc j) v h = raise-grows xs i j v h
+-- ---- one call
+-- another contractor's count
+pub count-other : (h : Change) (roll : Roll) (d : ℕ) → (d ≡ contractorOf h → ⊥) → countOf (changed h roll) d ≡ countOf roll d
+count-other h roll d n = ap (λ (e : Entry). e .count) (changed-other h roll d n)
 
-raise-small : (xs : List ℕ) (i v : ℕ) → ((j : ℕ) → getD xs j 0 < 65536) → v < 65536 → (j : ℕ) → getD (set xs i v) j 0 < 65536
-raise-small [] i v h l j = lit< tt
-raise-small (x ∷ xs) zero v h l zero = l
-raise-small (x ∷ xs) zero v h l (suc j) = h (suc j)
-raise-small (x ∷ xs) (suc i) v h l zero = h 0
-raise-small (x ∷ xs) (suc i) v h l (suc j) = raise-small xs i v (λ m. h (suc m)) l j
+-- the contractor's own
+pub entered-own : (roll : Roll) → IsRoll roll → (c r : ℕ) → enterNumber roll c r ≡ 0 → countOf (enteredRoll roll c r) c ≡ countOf roll c + 1
+unfolding changed
+entered-own roll is c r e = ap (λ (x : Entry). x .count) (changed-own (enter c r) roll is e)
 
--- ---- numbers of the calls
-pub record Entering (roll : Roll) (c : ℕ) : Type 0 where
-  pub contractor : isContractor c ≡ true
-  pub out : inStanding (countOf roll c) ≡ false
-  pub below : countOf roll c < 65534
+pub withdrawn-own : (roll : Roll) → IsRoll roll → (c : ℕ) → withdrawNumber roll c ≡ 0 → countOf (withdrawnRoll roll c) c ≡ countOf roll c + 1
+unfolding changed
+withdrawn-own roll is c e = ap (λ (x : Entry). x .count) (changed-own (withdraw c) roll is e)
 
-pub entering : (roll : Roll) (c : ℕ) → enterNumber roll c ≡ 0 → Entering roll c
-entering roll c e =
-    let h = all-pass (enterTries c (countOf roll c)) refl e in
-    record { contractor = h .0; out = not-true _ (h .1 .0); below = ltb-true _ _ (h .1 .1 .0) }
+-- nobody's, where a right is changed
+pub right-moves-none : (roll : Roll) (c r : ℕ) → changedRoll roll c r .counts ≡ roll .counts
+unfolding changed
+right-moves-none roll c r =
+    changed-either (λ (x : Roll). x .counts ≡ roll .counts) (change c r) roll (λ e. counts-kept roll c (changing roll c r e .contractor) _ refl) refl
 
-pub record Withdrawing (roll : Roll) (c : ℕ) : Type 0 where
-  pub contractor : isContractor c ≡ true
-  pub standing : inStanding (countOf roll c) ≡ true
+right-count : (roll : Roll) (c r d : ℕ) → countOf (changedRoll roll c r) d ≡ countOf roll d
+unfolding countOf
+right-count roll c r d = ap (λ (ns : List ℕ). cond (isContractor d) (getD ns (d - 1) 0) 0) (right-moves-none roll c r)
 
-pub withdrawing : (roll : Roll) (c : ℕ) → withdrawNumber roll c ≡ 0 → Withdrawing roll c
-withdrawing roll c e =
-    let h = all-pass (withdrawTries c (countOf roll c)) refl e in
-    record { contractor = h .0; standing = h .1 .0 }
-
--- ---- counts after a call
-counted-grows : (roll : Roll) (c d : ℕ) → isContractor c ≡ true → countOf roll d ≤ countOf (counted roll c) d
-unfolding counted
-counted-grows roll c d hc = by (isContractor d) refl
-  where
-    by : (b : Bool) → isContractor d ≡ b → countOf roll d ≤ countOf (counted roll c) d
-    by true e =
-        let g = raise-grows (roll .counts) (c - 1) (d - 1) (countOf roll c + 1) (omega (arith, count-is roll c hc)) in
-        omega (arith, count-is roll d e, count-is (counted roll c) d e)
-    by false e = omega (arith, nobody roll d e)
-
-pub changed-grows : (h : Change) (roll : Roll) (d : ℕ) → countOf roll d ≤ countOf (changed h roll) d
-unfolding changed enteredRoll withdrawnRoll
-changed-grows (enter c) roll d =
-    answer-either (λ (r : Roll). countOf roll d ≤ countOf r d) (enterNumber roll c) (counted roll c) roll
-    (λ e. counted-grows roll c d (entering roll c e .contractor)) (omega arith)
-changed-grows (withdraw c) roll d =
-    answer-either (λ (r : Roll). countOf roll d ≤ countOf r d) (withdrawNumber roll c) (counted roll c) roll
-    (λ e. counted-grows roll c d (withdrawing roll c e .contractor)) (omega arith)
-
+-- ---- lists of calls
 pub after-grows : (hs : List Change) (roll : Roll) (c : ℕ) → countOf roll c ≤ countOf (rollAfter hs roll) c
 unfolding rollAfter
 after-grows [] roll c = omega arith
 after-grows (h ∷ hs) roll c = let a = changed-grows h roll c in let b = after-grows hs (changed h roll) c in omega arith
-
--- another contractor's
-counted-other : (roll : Roll) (c d : ℕ) → isContractor c ≡ true → (d ≡ c → ⊥) → countOf (counted roll c) d ≡ countOf roll d
-unfolding counted
-counted-other roll c d hc n = by (isContractor d) refl
-  where
-    by : (b : Bool) → isContractor d ≡ b → countOf (counted roll c) d ≡ countOf roll d
-    by true e =
-        let a = a-contractor c hc in
-        let b = a-contractor d e in
-        count-is (counted roll c) d e
-        ∙ getD-set-other (roll .counts) (c - 1) (d - 1) (countOf roll c + 1) 0 (λ z. n (omega arith)) ∙ sym (count-is roll d e)
-    by false e = sym (nobody (counted roll c) d e) ∙ nobody roll d e
-
-pub changed-other : (h : Change) (roll : Roll) (d : ℕ) → (d ≡ contractorOf h → ⊥) → countOf (changed h roll) d ≡ countOf roll d
-unfolding changed enteredRoll withdrawnRoll
-changed-other (enter c) roll d n =
-    answer-either (λ (r : Roll). countOf r d ≡ countOf roll d) (enterNumber roll c) (counted roll c) roll
-    (λ e. counted-other roll c d (entering roll c e .contractor) n) refl
-changed-other (withdraw c) roll d n =
-    answer-either (λ (r : Roll). countOf r d ≡ countOf roll d) (withdrawNumber roll c) (counted roll c) roll
-    (λ e. counted-other roll c d (withdrawing roll c e .contractor) n) refl
-
--- the contractor's own
-counted-own : (roll : Roll) → IsRoll roll → (c : ℕ) → isContractor c ≡ true → countOf (counted roll c) c ≡ countOf roll c + 1
-unfolding counted
-counted-own roll r c h =
-    let a = a-contractor c h in
-    count-is (counted roll c) c h ∙ getD-set-same (roll .counts) (c - 1) (countOf roll c + 1) 0 (omega (arith, r .many))
-
-pub entered-own : (roll : Roll) → IsRoll roll → (c : ℕ) → enterNumber roll c ≡ 0 → countOf (enteredRoll roll c) c ≡ countOf roll c + 1
-unfolding enteredRoll
-entered-own roll r c e =
-    ap (λ (x : Roll). countOf x c) (sym (answer-done (enterTries c (countOf roll c)) (counted roll c) roll e))
-    ∙ counted-own roll r c (entering roll c e .contractor)
-
-pub withdrawn-own : (roll : Roll) → IsRoll roll → (c : ℕ) → withdrawNumber roll c ≡ 0 → countOf (withdrawnRoll roll c) c ≡ countOf roll c + 1
-unfolding withdrawnRoll
-withdrawn-own roll r c e =
-    ap (λ (x : Roll). countOf x c) (sym (answer-done (withdrawTries c (countOf roll c)) (counted roll c) roll e))
-    ∙ counted-own roll r c (withdrawing roll c e .contractor)
 
 -- ---- standing
 false-if : (b : Bool) → (b ≡ true → ⊥) → b ≡ false
@@ -146,35 +75,6 @@ entered-stands n e l = let z = out-even n e l in is-standing (n + 1) record { od
 
 pub withdrawn-out : (n : ℕ) → inStanding n ≡ true → inStanding (n + 1) ≡ false
 withdrawn-out n e = let s = a-standing n e in even-out (n + 1) (omega (arith, s .odd))
-
--- ---- rolls stay rolls
-counted-roll : (roll : Roll) → IsRoll roll → (c : ℕ) → countOf roll c < 65535 → IsRoll (counted roll c)
-unfolding counted
-counted-roll roll r c l =
-    record { many = length-set (roll .counts) (c - 1) _ ∙ r .many; small = raise-small (roll .counts) (c - 1) (countOf roll c + 1) (r .small) (omega arith) }
-
-pub changed-roll : (h : Change) (roll : Roll) → IsRoll roll → IsRoll (changed h roll)
-unfolding changed enteredRoll withdrawnRoll
-changed-roll (enter c) roll r =
-    answer-either IsRoll (enterNumber roll c) (counted roll c) roll (λ e. counted-roll roll r c (omega (arith, entering roll c e .below))) r
-changed-roll (withdraw c) roll r =
-    answer-either IsRoll (withdrawNumber roll c) (counted roll c) roll
-    (λ e. counted-roll roll r c (a-standing _ (withdrawing roll c e .standing) .below)) r
-
-pub after-roll : (hs : List Change) (roll : Roll) → IsRoll roll → IsRoll (rollAfter hs roll)
-unfolding rollAfter
-after-roll [] roll r = r
-after-roll (h ∷ hs) roll r = after-roll hs (changed h roll) (changed-roll h roll r)
-
--- zeros are below any bound
-pub zeros-small : {b : ℕ} → 0 < b → (n i : ℕ) → getD (replicate n 0) i 0 < b
-zeros-small h zero i = h
-zeros-small h (suc n) zero = h
-zeros-small h (suc n) (suc i) = zeros-small h n i
-
-pub empty-roll : IsRoll emptyRoll
-unfolding emptyRoll
-empty-roll = record { many = length-replicate {A = ℕ} 200 0; small = zeros-small (lit< tt) 200 }
 
 -- ---- withdrawals
 withdrawal : {c : ℕ} {hs : List Change} {roll : Roll} → IsRoll roll → Withdrawn c hs roll → countOf roll c < countOf (rollAfter hs roll) c
@@ -207,6 +107,19 @@ pub asked-counts : (hs : List Change) (roll : Roll) → IsRoll roll → (c : ℕ
     → Withdraws c hs → countOf roll c < countOf (rollAfter hs roll) c
 asked-counts hs roll r c hc s w = asked w roll r hc s
 
+-- ---- no withdrawals
+-- a call that does not withdraw c, who is in standing, leaves the count: c cannot be entered
+pub stays-once : (h : Change) (roll : Roll) (c : ℕ) → c ≡ contractorOf h → inStanding (countOf roll c) ≡ true
+    → (withdrawNumber roll c ≡ 0 → h ≡ withdraw c → ⊥) → countOf (changed h roll) c ≡ countOf roll c
+unfolding changed
+stays-once (enter d r) roll c e s n =
+    changed-either (λ (x : Roll). countOf x c ≡ countOf roll c) (enter d r) roll
+    (λ z. absurd (false≢true (sym (entering roll d r z .out) ∙ ap (λ (m : ℕ). inStanding (countOf roll m)) (sym e) ∙ s))) refl
+stays-once (change d r) roll c e s n = right-count roll d r c
+stays-once (withdraw d) roll c e s n =
+    changed-either (λ (x : Roll). countOf x c ≡ countOf roll c) (withdraw d) roll
+    (λ z. absurd (n (ap (withdrawNumber roll) e ∙ z) (ap withdraw (sym e)))) refl
+
 -- ---- what either room asks, the roll sees
 pub left-seen : {c : ℕ} {xs ys zs : List Change} → Merge xs ys zs → Withdraws c xs → Withdraws c zs
 left-seen (left m) now-asked = now-asked
@@ -221,20 +134,22 @@ right-seen (left m) w = asked-later (right-seen m w)
 -- ---- the end of the range
 -- a call on a contractor whose count is spent changes nothing
 spent-kept : (h : Change) (roll : Roll) → 65534 ≤ countOf roll (contractorOf h) → changed h roll ≡ roll
-unfolding changed enteredRoll withdrawnRoll
-spent-kept (enter c) roll l =
-    answer-either (λ (r : Roll). r ≡ roll) (enterNumber roll c) (counted roll c) roll
-    (λ e. let z : ⊥ = omega (arith, entering roll c e .below) in absurd z) refl
-spent-kept (withdraw c) roll l =
-    answer-either (λ (r : Roll). r ≡ roll) (withdrawNumber roll c) (counted roll c) roll
-    (λ e. absurd (false≢true (sym (spent-out (countOf roll c) l) ∙ withdrawing roll c e .standing))) refl
+spent-kept h roll l = changed-either (λ (r : Roll). r ≡ roll) h roll (λ e. absurd (by h l e)) refl
+  where
+    out : (c : ℕ) → 65534 ≤ countOf roll c → inStanding (countOf roll c) ≡ true → ⊥
+    out c l s = false≢true (sym (spent-out (countOf roll c) l) ∙ s)
+
+    by : (h : Change) → 65534 ≤ countOf roll (contractorOf h) → numberOf h roll ≡ 0 → ⊥
+    by (enter c r) l e = omega (arith, l, entering roll c r e .below)
+    by (change c r) l e = out c l (changing roll c r e .standing)
+    by (withdraw c) l e = out c l (withdrawing roll c e .standing)
 
 spent-changed : (h : Change) (roll : Roll) (c : ℕ) → isContractor c ≡ true → 65534 ≤ countOf roll c → countOf (changed h roll) c ≡ countOf roll c
 spent-changed h roll c hc l = by (eqb c (contractorOf h)) refl
   where
     by : (b : Bool) → eqb c (contractorOf h) ≡ b → countOf (changed h roll) c ≡ countOf roll c
     by true e = ap (λ (r : Roll). countOf r c) (spent-kept h roll (subst (λ (x : ℕ). 65534 ≤ countOf roll x) (eqb-true c (contractorOf h) e) l))
-    by false e = changed-other h roll c (eqb-false c (contractorOf h) e)
+    by false e = count-other h roll c (eqb-false c (contractorOf h) e)
 
 pub spent-stays : (hs : List Change) (roll : Roll) (c : ℕ) → isContractor c ≡ true → 65534 ≤ countOf roll c
     → countOf (rollAfter hs roll) c ≡ countOf roll c

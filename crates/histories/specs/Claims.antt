@@ -1,40 +1,52 @@
--- What is claimed of histories of a roll: document 01, "Roll and grant". A term of each type stands in proofs/Claims.antt.
+-- What is claimed of histories of a roll: document 01, "Roll and grant"; request 6, "Demoting without dropping". A term of each type stands in
+-- proofs/Claims.antt.
 use mathlib.Core.Bool.{true, false}
 use mathlib.Core.Path.{_≡_}
 use mathlib.Core.List.{List}
 use Prim.Native.Nat.{ℕ, _+_, _≤_, _<_}
 use Rattle.roll.specs.declared.Roll.{Roll}
-use Rattle.roll.specs.Roll.{emptyRoll, isContractor, countOf, inStanding}
-use Rattle.roll_changes.specs.Changes.{enterNumber, enteredRoll, withdrawNumber, withdrawnRoll}
-use Rattle.histories.specs.Histories.{Change, contractorOf, changed, rollAfter, Withdrawn, Withdraws, IsRoll}
+use Rattle.roll.specs.Roll.{emptyRoll, isContractor, countOf, figureOf, entryOf, inStanding}
+use Rattle.roll_changes.specs.Changes.{enterNumber, enteredRoll, withdrawNumber, withdrawnRoll, changeNumber, changedRoll}
+use Rattle.histories.specs.Histories.{Change, contractorOf, numberOf, changed, rollAfter, Withdrawn, Withdraws, Raised, IsRoll}
 
+-- ---- every call
 -- counts never fall
 unfoldable pub CountsNeverFall : Type 0
 CountsNeverFall = (hs : List Change) (roll : Roll) (c : ℕ) → countOf roll c ≤ countOf (rollAfter hs roll) c
 
--- a call changes no other contractor's count
-unfoldable pub OthersCountsStay : Type 0
-OthersCountsStay = (h : Change) (roll : Roll) (c : ℕ) → isContractor c ≡ true → (c ≡ contractorOf h → ⊥)
-    → countOf (changed h roll) c ≡ countOf roll c
+-- a change of right moves no count, nobody's
+unfoldable pub ChangesMoveNoCount : Type 0
+ChangesMoveNoCount = (roll : Roll) (c right : ℕ) → changedRoll roll c right .counts ≡ roll .counts
+
+-- a call changes no other contractor's count and right
+unfoldable pub OthersEntriesStay : Type 0
+OthersEntriesStay = (h : Change) (roll : Roll) (c : ℕ) → isContractor c ≡ true → (c ≡ contractorOf h → ⊥)
+    → entryOf (changed h roll) c ≡ entryOf roll c
 
 -- a refused call changes nothing
-pub record RefusedKeeps (roll : Roll) (c : ℕ) : Type 0 where
-  pub enter : 0 < enterNumber roll c → enteredRoll roll c ≡ roll
-  pub withdraw : 0 < withdrawNumber roll c → withdrawnRoll roll c ≡ roll
-
 unfoldable pub RefusedChangesNothing : Type 0
-RefusedChangesNothing = (roll : Roll) (c : ℕ) → RefusedKeeps roll c
+RefusedChangesNothing = (h : Change) (roll : Roll) → 0 < numberOf h roll → changed h roll ≡ roll
 
--- a call that is not refused adds 1: who is entered is then in standing, who is withdrawn is not
+-- an enter or a withdrawal that is not refused adds 1: who is entered is then in standing, who is withdrawn is not
 pub record Counts (roll : Roll) (c : ℕ) : Type 0 where
-  pub entered : enterNumber roll c ≡ 0 → (countOf (enteredRoll roll c) c ≡ countOf roll c + 1) × (inStanding (countOf (enteredRoll roll c) c) ≡ true)
+  pub entered : (right : ℕ) → enterNumber roll c right ≡ 0
+      → (countOf (enteredRoll roll c right) c ≡ countOf roll c + 1) × (inStanding (countOf (enteredRoll roll c right) c) ≡ true)
   pub withdrawn : withdrawNumber roll c ≡ 0
       → (countOf (withdrawnRoll roll c) c ≡ countOf roll c + 1) × (inStanding (countOf (withdrawnRoll roll c) c) ≡ false)
 
 unfoldable pub CallsCount : Type 0
 CallsCount = (roll : Roll) → IsRoll roll → (c : ℕ) → Counts roll c
 
--- counts keep to 16 bits, so that none wraps; the empty roll has such counts
+-- and the right is the one that was given, on entering and when it is changed, also where it was held already; it is 1 after a withdrawal
+pub record Rights (roll : Roll) (c : ℕ) : Type 0 where
+  pub entered : (right : ℕ) → enterNumber roll c right ≡ 0 → figureOf (enteredRoll roll c right) c ≡ right
+  pub changed : (right : ℕ) → changeNumber roll c right ≡ 0 → figureOf (changedRoll roll c right) c ≡ right
+  pub withdrawn : withdrawNumber roll c ≡ 0 → figureOf (withdrawnRoll roll c) c ≡ 1
+
+unfoldable pub CallsSetRights : Type 0
+CallsSetRights = (roll : Roll) → IsRoll roll → (c : ℕ) → Rights roll c
+
+-- counts keep to 16 bits, so that none wraps, and rights to a byte; the empty roll has such counts and rights
 unfoldable pub NothingWraps : Type 0
 NothingWraps = IsRoll emptyRoll × ((hs : List Change) (roll : Roll) → IsRoll roll → IsRoll (rollAfter hs roll))
 
@@ -47,6 +59,7 @@ pub record Spent (hs : List Change) (roll : Roll) (c : ℕ) : Type 0 where
 unfoldable pub NobodyComesBack : Type 0
 NobodyComesBack = (hs : List Change) (roll : Roll) → IsRoll roll → (c : ℕ) → isContractor c ≡ true → Spent hs roll c
 
+-- ---- withdrawals
 -- a list with an accepted withdrawal of c leaves c's count above what it was at first
 unfoldable pub WithdrawalCounts : Type 0
 WithdrawalCounts = (hs : List Change) (roll : Roll) → IsRoll roll → (c : ℕ) → Withdrawn c hs roll → countOf roll c < countOf (rollAfter hs roll) c
@@ -55,3 +68,14 @@ WithdrawalCounts = (hs : List Change) (roll : Roll) → IsRoll roll → (c : ℕ
 unfoldable pub WithdrawsCounts : Type 0
 WithdrawsCounts = (hs : List Change) (roll : Roll) → IsRoll roll → (c : ℕ) → isContractor c ≡ true → inStanding (countOf roll c) ≡ true
     → Withdraws c hs → countOf roll c < countOf (rollAfter hs roll) c
+
+-- a list without an accepted withdrawal of c, who is in standing at first, leaves c's count as it was
+unfoldable pub StandingStays : Type 0
+StandingStays = (hs : List Change) (roll : Roll) → IsRoll roll → (c : ℕ) → inStanding (countOf roll c) ≡ true
+    → (Withdrawn c hs roll → ⊥) → countOf (rollAfter hs roll) c ≡ countOf roll c
+
+-- ---- demotions
+-- who has not the right to overwrite gets it by no list of calls in which it is not given
+unfoldable pub NotRaisedUnasked : Type 0
+NotRaisedUnasked = (hs : List Change) (roll : Roll) → IsRoll roll → (c : ℕ) → (figureOf roll c ≡ 2 → ⊥)
+    → (Raised c hs roll → ⊥) → figureOf (rollAfter hs roll) c ≡ 2 → ⊥

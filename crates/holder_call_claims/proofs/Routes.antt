@@ -3,11 +3,12 @@ use mathlib.Core.Path.{_≡_, refl, sym, ap, ap₂, _∙_, subst}
 use mathlib.Core.Logic.{inl, inr}
 use mathlib.Core.Bool.{Bool, true, false, cond}
 use mathlib.Core.List.{List, [], _∷_}
-use Prim.Native.Nat.{ℕ, suc, _+_, _<_}
+use Prim.Native.Nat.{ℕ, _+_, _<_}
 use native.Mathlib.Omega.{arith}
 use lib.ListN.{length, drop, length-drop}
 use borrow.Author.Tests.{lt-ltb, le-ltb}
 use Rattle.basics.specs.Bytes.{AreBytes}
+use Rattle.basics.proofs.Bytes.{drop-bytes}
 use Rattle.basics.proofs.Tests.{below-or-not}
 use Rattle.refusal.specs.Tries.{written}
 use Rattle.refusal.proofs.Tries.{first-holds}
@@ -148,17 +149,12 @@ any-route-of key b e lent l cs k =
     }
 
 -- ---- bytes that hold a whole holder
-stage-bytes : (lent : List ℕ) → AreBytes lent → AreBytes (drop 2 lent)
-stage-bytes [] h i = h i
-stage-bytes (a ∷ []) h i = h (suc i)
-stage-bytes (a ∷ b ∷ bs) h i = h (suc (suc i))
-
 pub turn-home : (lent : List ℕ) → AreBytes lent → whole (holderOf lent) ≡ true → (way : Way) → TurnsHome lent way
 turn-home lent b w way =
     let l = whole-long lent w in
     let h = holderOf lent in
     let e = ap (λ (x : Holder). x .bytes) (read-long lent l) in
-    let k = key-of h (subst AreBytes (sym e) (stage-bytes lent b)) (ap length e ∙ length-drop 2 lent ∙ omega (arith, l)) w in
+    let k = key-of h (subst AreBytes (sym e) (drop-bytes 2 lent b)) (ap length e ∙ length-drop 2 lent ∙ omega (arith, l)) w in
     let n = subst (λ (x : ℕ). h .number < turn x) (sym (k .size)) (a-whole h w .below) in
     let z = ap holderBytes (sym (k .at)) ∙ written-read lent l in
     subst (λ (x : List ℕ). TurnsHome x way) z (turns-home (k .key) (k .bytes) (k .right) way (h .number) n)

@@ -4,13 +4,13 @@ use Prim.Native.Nat.{ℕ}
 use lib.ListN.{length}
 use Rattle.refusal.specs.Tries.{Try, first, written}
 use Rattle.settings.specs.Settings.{settingsTries}
-use Rattle.roll.specs.Roll.{countOf}
+use Rattle.roll.specs.Roll.{entryOf}
 use Rattle.roll_bytes.specs.RollBytes.{rollOf, rollTries}
 use Rattle.issuing.specs.Issuing.{wantedTries, issuedGrant}
 
 abbrev pub issueCallTries : List ℕ → ℕ → List ℕ → ℕ → ℕ → ℕ → List ℕ → List Try
 issueCallTries key rounds roll contractor size-block right out =
-    (settingsTries (length key) rounds ++ rollTries (length roll)) ++ wantedTries (length out) contractor right (countOf (rollOf roll) contractor)
+    (settingsTries (length key) rounds ++ rollTries (length roll)) ++ wantedTries (length out) contractor right (entryOf (rollOf roll) contractor)
 
 abbrev pub issueCallNumber : List ℕ → ℕ → List ℕ → ℕ → ℕ → ℕ → List ℕ → ℕ
 issueCallNumber key rounds roll contractor size-block right out = first (issueCallTries key rounds roll contractor size-block right out)

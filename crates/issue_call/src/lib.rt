@@ -19,11 +19,11 @@ pub fn issue(
 {
     let settings = settings::try_settings(key.len(), rounds);
     let long = roll_bytes::try_roll(settings, roll.len());
-    let count = roll_bytes::count_in(roll, contractor);
-    let tried = issuing::try_issue(long, out.len(), contractor, right, count);
+    let entry = roll_bytes::entry_in(roll, contractor);
+    let tried = issuing::try_issue(long, out.len(), contractor, right, entry);
     if refusal::is_refused(tried) {
         return refusal::outcome_number(tried);
     }
-    issuing::write_grant(key, rounds, contractor, count, size_block, right, out);
+    issuing::write_grant(key, rounds, contractor, entry.count, size_block, right, out);
     0
 }

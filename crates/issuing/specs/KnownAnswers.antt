@@ -16,6 +16,8 @@ knownAnswers =
     ∷ ((issueNumber (replicate 12 0) 10 emptyRoll 0 300 3 (replicate 12 0) ∷ []) is (6 ∷ []))
     -- order issue 7 20
     ∷ ((issueNumber (replicate 12 0) 10 emptyRoll 7 300 3 (replicate 12 0) ∷ []) is (7 ∷ []))
+    -- order issue 20 25
+    ∷ ((issueNumber (replicate 12 0) 10 emptyRoll 7 300 2 (replicate 12 0) ∷ []) is (20 ∷ []))
     -- document 01's order line has 4 between 2 and 6; that program's issue has no output
     ∷ ((issueNumber (replicate 12 0) 12 emptyRoll 7 300 2 (replicate 11 0) ∷ []) is (2 ∷ []))
     ∷ ((issueNumber (replicate 12 0) 10 emptyRoll 0 300 2 (replicate 11 0) ∷ []) is (4 ∷ []))

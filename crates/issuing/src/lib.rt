@@ -10,22 +10,31 @@ ghost use Rattle.cipher.specs.Cipher.{cipherBlock};
 ghost use Rattle.grant.specs.Grants.{plainGrant};
 ghost use Rattle.issuing.specs.Issuing.{wantedTries, issueNumber, issueOutput};
 ghost use Rattle.issuing.specs.ForProver.{Issuable};
-use grant::is_right;
 use grant::plain_grant;
 use key_lists::Direction;
 use refusal::Outcome;
 use refusal::Reason;
 use refusal::unless;
+use rights::is_right;
+use rights::within_highest;
+use roll::Entry;
 use roll::Roll;
 
-// What is tried after settings and lengths: the room for the grant, the contractor, the right and the standing.
-pub fn try_issue(prior: Outcome, room: usize, contractor: u32, right: u32, count: u16) -> Outcome
-    ensures { λ r. ⌜ outcomeNumber r ≡ after (outcomeNumber prior) (wantedTries room contractor right count) ⌝ }
+// What is tried after settings and lengths: the room for the grant, the contractor, the right, the standing, and the right against the highest.
+pub fn try_issue(
+    prior: Outcome,
+    room: usize,
+    contractor: u32,
+    right: u32,
+    entry: Entry,
+) -> Outcome
+    ensures { λ r. ⌜ outcomeNumber r ≡ after (outcomeNumber prior) (wantedTries room contractor right «entry») ⌝ }
 {
     let fits = unless(prior, Reason::OutputTooShort, 12 <= room);
     let known = unless(fits, Reason::Contractor, roll::is_contractor(contractor));
     let asked = unless(known, Reason::UnknownRight, is_right(right));
-    unless(asked, Reason::NotInStanding, roll::is_in_standing(count))
+    let stands = unless(asked, Reason::NotInStanding, roll::is_in_standing(entry.count));
+    unless(stands, Reason::AboveHighest, within_highest(right, entry.figure))
 }
 
 // A grant's twelve bytes, enciphered to the output.
@@ -62,12 +71,12 @@ pub fn issue(
     ensures { λ r. ⌜ outcomeNumber r ≡ issueNumber (now (key .entry)) rounds roll contractor «size_block» right (now (out .entry)) ⌝ }
     ensures { λ _. ⌜ now (out .exit) ≡ issueOutput (now (key .entry)) rounds roll contractor «size_block» right (now (out .entry)) ⌝ }
 {
-    let count = roll::count_of(roll, contractor);
+    let entry = roll::entry_of(roll, contractor);
     let settings = settings::try_settings(key.len(), rounds);
-    let tried = try_issue(settings, out.len(), contractor, right, count);
+    let tried = try_issue(settings, out.len(), contractor, right, entry);
     if refusal::is_refused(tried) {
         return tried;
     }
-    write_grant(key, rounds, contractor, count, size_block, right, out);
+    write_grant(key, rounds, contractor, entry.count, size_block, right, out);
     Outcome::Done
 }

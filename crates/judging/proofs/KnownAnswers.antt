@@ -3,10 +3,13 @@ use mathlib.Core.Path.{refl}
 use Rattle.basics.specs.Cases.{Hold}
 use Rattle.basics.proofs.Cases.{_&_}
 use Rattle.refusal.specs.Tries.{first, answered}
-use Rattle.roll.specs.Roll.{emptyRoll, countOf, inStanding}
-use Rattle.grant.specs.Grants.{covers, contractorIn, countIn, sizeBlockIn, isMarked, isGrant}
+use Rattle.roll.specs.Roll.{emptyRoll, countOf, figureOf, inStanding}
+use Rattle.rights.specs.Rights.{covers, highest, withinHighest}
+use Rattle.grant.specs.Grants.{contractorIn, countIn, sizeBlockIn, isMarked, isGrant}
 use Rattle.judging.specs.KnownAnswers.{knownAnswers}
 
 pub known-answers : Hold knownAnswers
-unfolding knownAnswers first answered emptyRoll countOf inStanding covers contractorIn countIn sizeBlockIn isMarked isGrant
-known-answers = refl & refl & refl & refl & refl & refl & refl & refl & refl & refl & refl & refl & refl & refl & tt
+unfolding knownAnswers first answered emptyRoll countOf figureOf inStanding covers highest withinHighest contractorIn countIn sizeBlockIn isMarked isGrant
+known-answers =
+    refl & refl & refl & refl & refl & refl & refl & refl & refl & refl & refl & refl & refl &
+    refl & refl & refl & refl & refl & refl & refl & refl & refl & refl & refl & refl & tt

@@ -1,14 +1,16 @@
 -- What is tried of a grant that is checked, asked for one size block and one right: the parts of document 01's order line
--- "check 1, 2, 3, 7, 8, 9, 10, 20, 23", with 10 as request 1 has it. What is tried of the input comes first; the plain bytes are there once the
--- grant is deciphered.
+-- "check 1, 2, 3, 7, 8, 9, 10, 20, 23", with 10 as request 1 has it, and 25 last, as request 6 has it. What is tried of the input comes first; the
+-- plain bytes are there once the grant is deciphered.
 use mathlib.Core.Bool.{Bool}
 use mathlib.Core.List.{List, [], _∷_, _++_}
 use Prim.Native.Nat.{ℕ}
 use lib.Dec.{eqb}
 use Rattle.refusal.specs.Tries.{Try, _unless_, first, answered}
 use Rattle.settings.specs.Settings.{settingsTries}
+use Rattle.roll.specs.declared.Entry.{Entry}
 use Rattle.roll.specs.Roll.{inStanding}
-use Rattle.grant.specs.Grants.{isRight, covers, contractorIn, countIn, sizeBlockIn, rightIn, isGrant}
+use Rattle.rights.specs.Rights.{isRight, covers, withinHighest}
+use Rattle.grant.specs.Grants.{contractorIn, countIn, sizeBlockIn, rightIn, isGrant}
 
 -- settings, for a key of n bytes; whether what was handed over has the right length; and the right: 1, 2, 3 and 7
 abbrev pub inputTries : ℕ → ℕ → Bool → ℕ → List Try
@@ -21,23 +23,25 @@ askedTries p size-block right =
     ∷ (10 unless covers (rightIn p) right)
     ∷ []
 
--- the contractor's standing, where the count is this, against the one written in p: 20 and 23
-abbrev pub standingTries : List ℕ → ℕ → List Try
-standingTries p count =
-    (20 unless inStanding count)
-    ∷ (23 unless eqb (countIn p) count)
+-- the contractor's entry on the roll: whether they are in standing, and in the one that is written in p: 20 and 23; and 25, which looks at the right
+-- asked for, and not at the one written in p
+abbrev pub standingTries : List ℕ → Entry → ℕ → List Try
+standingTries p entry right =
+    (20 unless inStanding (entry .count))
+    ∷ (23 unless eqb (countIn p) (entry .count))
+    ∷ (25 unless withinHighest right (entry .figure))
     ∷ []
 
--- what is tried of the plain bytes p: 8, then 9 and 10, then 20 and 23
-abbrev pub plainTries : List ℕ → ℕ → ℕ → ℕ → List Try
-plainTries p count size-block right = (8 unless isGrant p) ∷ (askedTries p size-block right ++ standingTries p count)
+-- what is tried of the plain bytes p: 8, then 9 and 10, then 20, 23 and 25
+abbrev pub plainTries : List ℕ → Entry → ℕ → ℕ → List Try
+plainTries p entry size-block right = (8 unless isGrant p) ∷ (askedTries p size-block right ++ standingTries p entry right)
 
 -- what is answered: the number of the first reason that holds, or 0; where none holds, the contractor whom p names and the right that was asked for
-abbrev pub judgedNumber : List ℕ → ℕ → ℕ → ℕ → ℕ
-judgedNumber p count size-block right = first (plainTries p count size-block right)
+abbrev pub judgedNumber : List ℕ → Entry → ℕ → ℕ → ℕ
+judgedNumber p entry size-block right = first (plainTries p entry size-block right)
 
-abbrev pub judgedContractor : List ℕ → ℕ → ℕ → ℕ → ℕ
-judgedContractor p count size-block right = answered (judgedNumber p count size-block right) (contractorIn p) 0
+abbrev pub judgedContractor : List ℕ → Entry → ℕ → ℕ → ℕ
+judgedContractor p entry size-block right = answered (judgedNumber p entry size-block right) (contractorIn p) 0
 
-abbrev pub judgedRight : List ℕ → ℕ → ℕ → ℕ → ℕ
-judgedRight p count size-block right = answered (judgedNumber p count size-block right) right 0
+abbrev pub judgedRight : List ℕ → Entry → ℕ → ℕ → ℕ
+judgedRight p entry size-block right = answered (judgedNumber p entry size-block right) right 0

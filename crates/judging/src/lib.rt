@@ -10,15 +10,17 @@ use grant::Grant;
 use grant::Verdict;
 use grant::contractor_in;
 use grant::count_in;
-use grant::covers;
 use grant::is_grant;
-use grant::is_right;
 use grant::right_in;
-use grant::right_of;
 use grant::size_block_in;
 use refusal::Outcome;
 use refusal::Reason;
 use refusal::unless;
+use rights::covers;
+use rights::is_right;
+use rights::right_of;
+use rights::within_highest;
+use roll::Entry;
 
 // Settings, lengths, and the right that is asked for.
 pub fn try_input(n: usize, rounds: u32, lengths: bool, right: u32) -> Outcome
@@ -37,23 +39,24 @@ pub fn try_asked(prior: Outcome, p: &[u8; 12], size_block: u32, right: u32) -> O
     unless(block, Reason::OtherRight, covers(right_in(p), right))
 }
 
-// The contractor's standing, then that it is the one written in the grant.
-pub fn try_standing(prior: Outcome, p: &[u8; 12], count: u16) -> Outcome
-    ensures { λ r. ⌜ outcomeNumber r ≡ after (outcomeNumber prior) (standingTries (now (p .entry)) count) ⌝ }
+// The contractor's standing, then that it is the one written in the grant, then that what is asked for is not above the highest right.
+pub fn try_standing(prior: Outcome, p: &[u8; 12], entry: Entry, right: u32) -> Outcome
+    ensures { λ r. ⌜ outcomeNumber r ≡ after (outcomeNumber prior) (standingTries (now (p .entry)) «entry» right) ⌝ }
 {
-    let stands = unless(prior, Reason::NotInStanding, roll::is_in_standing(count));
-    unless(stands, Reason::OtherCount, count_in(p) == count)
+    let stands = unless(prior, Reason::NotInStanding, roll::is_in_standing(entry.count));
+    let current = unless(stands, Reason::OtherCount, count_in(p) == entry.count);
+    unless(current, Reason::AboveHighest, within_highest(right, entry.figure))
 }
 
-// The verdict on a grant's plain bytes, where the roll has this count for its contractor.
-pub fn judge(p: &[u8; 12], count: u16, size_block: u32, right: u32) -> Verdict
-    ensures { λ r. ⌜ verdictNumber r ≡ judgedNumber (now (p .entry)) count «size_block» right ⌝ }
-    ensures { λ r. ⌜ verdictContractor r ≡ judgedContractor (now (p .entry)) count «size_block» right ⌝ }
-    ensures { λ r. ⌜ verdictRight r ≡ judgedRight (now (p .entry)) count «size_block» right ⌝ }
+// The verdict on a grant's plain bytes, where the roll has this entry for its contractor.
+pub fn judge(p: &[u8; 12], entry: Entry, size_block: u32, right: u32) -> Verdict
+    ensures { λ r. ⌜ verdictNumber r ≡ judgedNumber (now (p .entry)) «entry» «size_block» right ⌝ }
+    ensures { λ r. ⌜ verdictContractor r ≡ judgedContractor (now (p .entry)) «entry» «size_block» right ⌝ }
+    ensures { λ r. ⌜ verdictRight r ≡ judgedRight (now (p .entry)) «entry» «size_block» right ⌝ }
 {
     let whole = unless(Outcome::Done, Reason::NotAGrant, is_grant(p));
     let asked = try_asked(whole, p, size_block, right);
-    let tried = try_standing(asked, p, count);
+    let tried = try_standing(asked, p, entry, right);
     if let Outcome::Refused(reason) = tried {
         return Verdict::Refused(reason);
     }

@@ -9,6 +9,7 @@ use lib.ListN.{length, getD, take, drop, replicate, length-drop, getD-replicate,
 use lib.Seq.{take-at, drop-at, take-add, length-take-le, getD-take, getD-drop}
 use borrow.Author.Tests.{eq-eqb, le-leb}
 use Rattle.basics.specs.Bytes.{AreBytes}
+use Rattle.basics.proofs.Bytes.{joined-bytes, repeated-bytes}
 use Rattle.layers.specs.State.{State}
 use Rattle.numbers.specs.Numbers.{twoBytes, fourBytes}
 use Rattle.numbers.proofs.Laws.{two-again, four-again, high, low, four₀, four₁, four₂, four₃}
@@ -24,15 +25,8 @@ use Rattle.pages.specs.Pages.{header, filled, stored, checkOver, pageOf, blockI
 use Rattle.pages.proofs.Lengths.{length-filled, length-stored, length-page, length-payload}
 
 -- ---- bytes
-joined-bytes : (xs ys : List ℕ) → AreBytes xs → AreBytes ys → AreBytes (xs ++ ys)
-joined-bytes [] ys hx hy i = hy i
-joined-bytes (x ∷ xs) ys hx hy zero = hx 0
-joined-bytes (x ∷ xs) ys hx hy (suc i) = joined-bytes xs ys (λ j. hx (suc j)) hy i
-
 zero-bytes : (n : ℕ) → AreBytes (replicate n 0)
-zero-bytes zero i = lit< tt
-zero-bytes (suc n) zero = lit< tt
-zero-bytes (suc n) (suc i) = zero-bytes n i
+zero-bytes n = repeated-bytes n 0 (lit< tt)
 
 rest : (n : ℕ) → n % 256 < 256
 rest n = omega arith

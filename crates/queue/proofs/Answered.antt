@@ -25,10 +25,11 @@ use Rattle.cipher.specs.Claims.{EngineRunsPrepared}
 use Rattle.cipher.proofs.Claims.{engine-runs-prepared}
 use Rattle.list_rounds.proofs.Lists.{accepted}
 use Rattle.roll.specs.declared.Roll.{Roll}
-use Rattle.roll.specs.Roll.{countOf}
-use Rattle.grant.specs.Grants.{isRight, contractorIn}
+use Rattle.roll.specs.Roll.{entryOf}
+use Rattle.rights.specs.Rights.{isRight}
+use Rattle.grant.specs.Grants.{contractorIn}
 use Rattle.judging.specs.Judging.{inputTries, plainTries, judgedNumber}
-use Rattle.checking.specs.Checking.{openedGrant, countNow, checkNumber}
+use Rattle.checking.specs.Checking.{openedGrant, entryNow, checkNumber}
 use Rattle.queue_parts.specs.QueueParts.{grantsIn, grantAt, queueInputTries}
 use Rattle.queue_parts.specs.ForProver.{Answerable, numberOver}
 use Rattle.queue_parts.proofs.Answers.{grant-length}
@@ -48,10 +49,10 @@ length-answers key rounds roll grants block right = length-listed (grantsIn (len
 -- where a key, a round count, a right and a grant's length were tried, a check of the grant gives what is tried of its plain bytes
 pub tried-once : (key : List ℕ) (rounds : ℕ) (roll : Roll) (grant : List ℕ) (block right : ℕ)
     → keyLength (length key) ≡ true → roundsAllowed (length key) rounds ≡ true → isRight right ≡ true → length grant ≡ 12
-    → checkNumber key rounds roll grant block right ≡ judgedNumber (openedGrant key rounds grant) (countNow key rounds roll grant) block right
+    → checkNumber key rounds roll grant block right ≡ judgedNumber (openedGrant key rounds grant) (entryNow key rounds roll grant) block right
 tried-once key rounds roll grant block right k r asked twelve =
     first-then (inputTries (length key) rounds (eqb (length grant) 12) right)
-    (plainTries (openedGrant key rounds grant) (countNow key rounds roll grant) block right) (k, (r, (eq-eqb (length grant) 12 twelve, (asked, tt))))
+    (plainTries (openedGrant key rounds grant) (entryNow key rounds roll grant) block right) (k, (r, (eq-eqb (length grant) 12 twelve, (asked, tt))))
 
 module _ (key : List ℕ) (rounds : ℕ) (s : Settings key rounds) (roll : Roll) (block right : ℕ) (asked : isRight right ≡ true) where
   -- a grant opened over the key's list is judged as if it were checked alone
@@ -59,7 +60,7 @@ module _ (key : List ℕ) (rounds : ℕ) (s : Settings key rounds) (roll : Roll)
       → numberOver (prepared Deciphering key rounds) roll block right grant ≡ checkNumber key rounds roll grant block right
   unfolding numberOver openedGrant EngineRunsPrepared
   alone grant twelve =
-      ap (λ (p : List ℕ). judgedNumber p (countOf roll (contractorIn p)) block right) (engine-runs-prepared Deciphering key rounds grant s)
+      ap (λ (p : List ℕ). judgedNumber p (entryOf roll (contractorIn p)) block right) (engine-runs-prepared Deciphering key rounds grant s)
       ∙ sym (tried-once key rounds roll grant block right (s .length-allowed) (s .rounds-allowed) asked twelve)
 
   pub answered-alone : (grants list : List ℕ) → list ≡ prepared Deciphering key rounds

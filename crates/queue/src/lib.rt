@@ -20,8 +20,8 @@ fn answer(list: &[u8], roll: Roll, grant: &[u8], size_block: u32, right: u32) ->
     ensures { λ r. ⌜ r ≡ numberOver (now (list .entry)) roll «size_block» right (now (grant .entry)) ⌝ }
 {
     let plain = checking::open_prepared(list, grant);
-    let count = roll::count_of(roll, grant::contractor_in(&plain));
-    queue_parts::verdict_byte(judging::judge(&plain, count, size_block, right))
+    let entry = roll::entry_of(roll, grant::contractor_in(&plain));
+    queue_parts::verdict_byte(judging::judge(&plain, entry, size_block, right))
 }
 
 // The bytes for all of them, grant by grant.

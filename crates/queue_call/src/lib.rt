@@ -1,4 +1,4 @@
-// A queue of grants checked on a roll's bytes, as the C call makes it: the counts that it needs are read where they lie.
+// A queue of grants checked on a roll's bytes, as the C call makes it: the entries that it needs are read where they lie.
 
 ghost use mathlib.Core.Path.{_≡_};
 ghost use mathlib.Core.Bool.{true};
@@ -18,8 +18,8 @@ fn answer(list: &[u8], roll: &[u8], grant: &[u8], size_block: u32, right: u32) -
     ensures { λ r. ⌜ r ≡ numberOver (now (list .entry)) (rollOf (now (roll .entry))) «size_block» right (now (grant .entry)) ⌝ }
 {
     let plain = checking::open_prepared(list, grant);
-    let count = roll_bytes::count_in(roll, grant::contractor_in(&plain));
-    queue_parts::verdict_byte(judging::judge(&plain, count, size_block, right))
+    let entry = roll_bytes::entry_in(roll, grant::contractor_in(&plain));
+    queue_parts::verdict_byte(judging::judge(&plain, entry, size_block, right))
 }
 
 // The bytes for all of them, grant by grant.

@@ -11,8 +11,9 @@ use Rattle.basics.proofs.Tests.{and-first}
 use Rattle.refusal.specs.Tries.{first, written, answered}
 use Rattle.refusal.proofs.Ladder.{all-pass, first-small}
 use Rattle.roll_bytes.specs.RollBytes.{rollLength, rollOf}
-use Rattle.grant.specs.Grants.{isRight, contractorIn}
-use Rattle.grant.proofs.Rights.{right-least}
+use Rattle.rights.specs.Rights.{isRight}
+use Rattle.grant.specs.Grants.{contractorIn}
+use Rattle.rights.proofs.Rights.{right-least}
 use Rattle.judging.specs.Judging.{inputTries, plainTries}
 use Rattle.checking.specs.Checking.{openedGrant, countNow, checkNumber}
 use Rattle.check_call.specs.CheckCall.{callTries, callCode}

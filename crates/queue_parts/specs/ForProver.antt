@@ -6,7 +6,7 @@ use Prim.Native.Nat.{ℕ, _≤_}
 use Rattle.list_rounds.specs.ListRounds.{listLength}
 use Rattle.engine.specs.Engine.{engineBlock}
 use Rattle.roll.specs.declared.Roll.{Roll}
-use Rattle.roll.specs.Roll.{countOf}
+use Rattle.roll.specs.Roll.{entryOf}
 use Rattle.grant.specs.Grants.{contractorIn}
 use Rattle.judging.specs.Judging.{judgedNumber}
 use Rattle.queue_parts.specs.QueueParts.{grantsIn}
@@ -19,4 +19,4 @@ pub record Answerable (list grants answers : ℕ) : Type 0 where
 -- the number of the verdict on a grant that is opened over a list
 unfoldable pub numberOver : List ℕ → Roll → ℕ → ℕ → List ℕ → ℕ
 numberOver list roll size-block right grant =
-    judgedNumber (engineBlock list grant) (countOf roll (contractorIn (engineBlock list grant))) size-block right
+    judgedNumber (engineBlock list grant) (entryOf roll (contractorIn (engineBlock list grant))) size-block right

@@ -7,7 +7,7 @@ use lib.Dec.{eqb, leb}
 use lib.ListN.{take, drop}
 use Rattle.refusal.specs.Tries.{Try, _unless_}
 use Rattle.settings.specs.Settings.{settingsTries}
-use Rattle.grant.specs.Grants.{isRight}
+use Rattle.rights.specs.Rights.{isRight}
 
 -- 0 to 64 grants of twelve bytes each, one after the other
 abbrev pub queueLength : ℕ → Bool

@@ -31,7 +31,7 @@ pub fn try_queue(
     let settings = settings::try_settings(n, rounds);
     let whole = unless(settings, Reason::InputLength, lengths);
     let fits = unless(whole, Reason::OutputTooShort, grants / 12 <= room);
-    unless(fits, Reason::UnknownRight, grant::is_right(right))
+    unless(fits, Reason::UnknownRight, rights::is_right(right))
 }
 
 // What answers for a grant: 0 if it opens, else its refusal's number.

@@ -8,7 +8,7 @@ use borrow.Author.Tests.{ne-eqb}
 use Rattle.refusal.specs.declared.Reason.{Reason}
 use Rattle.refusal.specs.declared.Reason.the-variants.{KeyLength, RoundCount, InputLength, OutputTooShort, StageOrList, Contractor, UnknownRight}
 use Rattle.refusal.specs.declared.Reason.the-variants.{NotAGrant, OtherBlock, OtherRight, NotAPage, PayloadTooLong, CheckDiffers}
-use Rattle.refusal.specs.declared.Reason.the-variants.{NotInStanding, InStanding, CountSpent, OtherCount, BrokenHolder}
+use Rattle.refusal.specs.declared.Reason.the-variants.{NotInStanding, InStanding, CountSpent, OtherCount, BrokenHolder, AboveHighest}
 use Rattle.refusal.specs.declared.Outcome.{Outcome}
 use Rattle.refusal.specs.declared.Outcome.the-variants.{Done, Refused}
 use Rattle.refusal.specs.Reasons.{reasonNumber, outcomeNumber}
@@ -23,7 +23,7 @@ reason n =
     (cond (eqb n 5) StageOrList (cond (eqb n 6) Contractor (cond (eqb n 7) UnknownRight (cond (eqb n 8) NotAGrant
     (cond (eqb n 9) OtherBlock (cond (eqb n 10) OtherRight (cond (eqb n 11) NotAPage (cond (eqb n 12) PayloadTooLong
     (cond (eqb n 13) CheckDiffers (cond (eqb n 20) NotInStanding (cond (eqb n 21) InStanding (cond (eqb n 22) CountSpent
-    (cond (eqb n 23) OtherCount BrokenHolder))))))))))))))))
+    (cond (eqb n 23) OtherCount (cond (eqb n 24) BrokenHolder AboveHighest)))))))))))))))))
 
 reason-number : (r : Reason) → reason (reasonNumber r) ≡ r
 unfolding reason
@@ -45,6 +45,7 @@ reason-number InStanding = refl
 reason-number CountSpent = refl
 reason-number OtherCount = refl
 reason-number BrokenHolder = refl
+reason-number AboveHighest = refl
 
 pub numbers-tell-reasons : NumbersTellReasons
 unfolding NumbersTellReasons

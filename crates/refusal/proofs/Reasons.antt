@@ -1,4 +1,4 @@
--- No reason has the number 0, and none a number above 24.
+-- No reason has the number 0, and none a number above 25.
 use mathlib.Core.Path.{_≡_, refl}
 use mathlib.Core.Bool.{true, _&&_}
 use Prim.Native.Nat.{_≤_, _<_}
@@ -8,11 +8,11 @@ use Rattle.basics.proofs.Tests.{and-first, and-second}
 use Rattle.refusal.specs.declared.Reason.{Reason}
 use Rattle.refusal.specs.declared.Reason.the-variants.{KeyLength, RoundCount, InputLength, OutputTooShort, StageOrList, Contractor, UnknownRight}
 use Rattle.refusal.specs.declared.Reason.the-variants.{NotAGrant, OtherBlock, OtherRight, NotAPage, PayloadTooLong, CheckDiffers}
-use Rattle.refusal.specs.declared.Reason.the-variants.{NotInStanding, InStanding, CountSpent, OtherCount, BrokenHolder}
+use Rattle.refusal.specs.declared.Reason.the-variants.{NotInStanding, InStanding, CountSpent, OtherCount, BrokenHolder, AboveHighest}
 use Rattle.refusal.specs.Reasons.{reasonNumber}
 
 -- both, as a test that computes
-bounded : (r : Reason) → (ltb 0 (reasonNumber r) && leb (reasonNumber r) 24) ≡ true
+bounded : (r : Reason) → (ltb 0 (reasonNumber r) && leb (reasonNumber r) 25) ≡ true
 bounded KeyLength = refl
 bounded RoundCount = refl
 bounded InputLength = refl
@@ -31,9 +31,10 @@ bounded InStanding = refl
 bounded CountSpent = refl
 bounded OtherCount = refl
 bounded BrokenHolder = refl
+bounded AboveHighest = refl
 
 pub reason-positive : (r : Reason) → 0 < reasonNumber r
-reason-positive r = let n = reasonNumber r in ltb-true 0 n (and-first (ltb 0 n) (leb n 24) (bounded r))
+reason-positive r = let n = reasonNumber r in ltb-true 0 n (and-first (ltb 0 n) (leb n 25) (bounded r))
 
-pub reason-most : (r : Reason) → reasonNumber r ≤ 24
-reason-most r = let n = reasonNumber r in leb-true n 24 (and-second (ltb 0 n) (leb n 24) (bounded r))
+pub reason-most : (r : Reason) → reasonNumber r ≤ 25
+reason-most r = let n = reasonNumber r in leb-true n 25 (and-second (ltb 0 n) (leb n 25) (bounded r))

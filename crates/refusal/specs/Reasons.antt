@@ -1,10 +1,10 @@
 -- The numbers of the reasons: document 01, "Reasons found in the input" and "Reasons found in the state"; 10 as request 1 has it, 3 and 4
--- also as request 2 has them, 1, 4 and 11 to 13 also as request 3 has them.
+-- also as request 2 has them, 1, 4 and 11 to 13 also as request 3 has them, 3 and 25 also as request 6 has them.
 use Prim.Native.Nat.{ℕ}
 use Rattle.refusal.specs.declared.Reason.{Reason}
 use Rattle.refusal.specs.declared.Reason.the-variants.{KeyLength, RoundCount, InputLength, OutputTooShort, StageOrList, Contractor, UnknownRight}
 use Rattle.refusal.specs.declared.Reason.the-variants.{NotAGrant, OtherBlock, OtherRight, NotAPage, PayloadTooLong, CheckDiffers}
-use Rattle.refusal.specs.declared.Reason.the-variants.{NotInStanding, InStanding, CountSpent, OtherCount, BrokenHolder}
+use Rattle.refusal.specs.declared.Reason.the-variants.{NotInStanding, InStanding, CountSpent, OtherCount, BrokenHolder, AboveHighest}
 use Rattle.refusal.specs.declared.Outcome.{Outcome}
 use Rattle.refusal.specs.declared.Outcome.the-variants.{Done, Refused}
 
@@ -13,7 +13,7 @@ abbrev pub reasonNumber : Reason → ℕ
 reasonNumber KeyLength = 1
 -- round count outside the table's row
 reasonNumber RoundCount = 2
--- block or grant not 12 bytes; a queue of grants whose length is over 768 or not a multiple of 12; in the C call also a roll not 400 bytes
+-- block or grant not 12 bytes; a queue of grants whose length is over 768 or not a multiple of 12; in the C call also a roll not 600 bytes
 reasonNumber InputLength = 3
 -- output too short; of a queue, fewer bytes for the answers than grants; of a page, also scratch under 576 bytes
 reasonNumber OutputTooShort = 4
@@ -45,6 +45,8 @@ reasonNumber CountSpent = 22
 reasonNumber OtherCount = 23
 -- holder with a wrong key length, a stage number of 6t or more, or non-zero bytes past the key
 reasonNumber BrokenHolder = 24
+-- right asked for above the contractor's highest
+reasonNumber AboveHighest = 25
 
 -- the number that an answer stands for: 0 where the work was done
 abbrev pub outcomeNumber : Outcome → ℕ

@@ -25,6 +25,7 @@ pub enum Reason {
     CountSpent,
     OtherCount,
     BrokenHolder,
+    AboveHighest,
 }
 
 // What a call answers: that it did its work, or why it refused.
@@ -56,6 +57,7 @@ pub fn reason_number(r: Reason) -> u32
         Reason::CountSpent => 22,
         Reason::OtherCount => 23,
         Reason::BrokenHolder => 24,
+        Reason::AboveHighest => 25,
     }
 }
 

@@ -5,7 +5,7 @@ use mathlib.Core.List.{List}
 use Prim.Native.Nat.{ℕ, _≤_, _<_}
 use native.Mathlib.Omega.{arith}
 use lib.ListN.{length}
-use borrow.Author.Tests.{eqb-true, eq-eqb}
+use borrow.Author.Tests.{eqb-true, eq-eqb, leb-true, le-leb}
 use Rattle.refusal.specs.Tries.{NoneHolds}
 use Rattle.refusal.proofs.Tries.{none-given}
 use Rattle.refusal.proofs.Ladder.{all-pass}
@@ -20,14 +20,24 @@ use Rattle.key_lists.specs.KeyLists.{listFor}
 use Rattle.key_lists.proofs.Lists.{states-for}
 use Rattle.cipher.specs.Cipher.{cipherBlock}
 use Rattle.roll.specs.declared.Roll.{Roll}
-use Rattle.roll.specs.Roll.{isContractor, countOf, inStanding}
+use Rattle.roll.specs.Roll.{isContractor, countOf, figureOf, inStanding}
 use Rattle.roll.proofs.Contractors.{a-contractor, is-contractor, a-standing, is-standing}
-use Rattle.grant.specs.Grants.{isRight, covers, plainGrant, contractorIn, countIn, sizeBlockIn, rightIn, isMarked, isGrant}
+use Rattle.rights.specs.Rights.{isRight, covers, highest, withinHighest}
+use Rattle.grant.specs.Grants.{plainGrant, contractorIn, countIn, sizeBlockIn, rightIn, isMarked, isGrant}
 use Rattle.checking.specs.Checking.{openedGrant, checkTries, checkNumber, checkContractor, checkRight}
-use Rattle.grant.proofs.Rights.{one-or-two, is-right, covering-right}
+use Rattle.rights.proofs.Rights.{one-or-two, is-right, covering-right}
 use Rattle.grant.proofs.Tests.{a-grant, is-grant}
 use Rattle.revocation.specs.Claims.{Opening, Accepted}
 use Rattle.revocation.proofs.Bytes.{reads-contractor, reads-count, reads-block, reads-right, reads-mark, written-again, state-bytes-small}
+
+-- ---- the highest right
+pub within-is : (asked figure : ℕ) → withinHighest asked figure ≡ true → asked ≤ highest figure
+unfolding withinHighest
+within-is asked figure e = leb-true asked (highest figure) e
+
+is-within : (asked figure : ℕ) → asked ≤ highest figure → withinHighest asked figure ≡ true
+unfolding withinHighest
+is-within asked figure l = le-leb asked (highest figure) l
 
 -- ---- the plain bytes
 opened-twelve : (key : List ℕ) (rounds : ℕ) (grant : List ℕ) → length (openedGrant key rounds grant) ≡ 12
@@ -82,6 +92,7 @@ module _ (key : List ℕ) (rounds : ℕ) (roll : Roll) (grant : List ℕ) (block
         on-roll = sym ec;
         odd = omega (arith, s .odd, ec);
         below = omega (arith, s .below, ec);
+        within = within-is right _ (t .1 .1 .1 .1 .1 .0);
       }
 
 -- what plain bytes name
@@ -121,6 +132,7 @@ accepted key rounds roll grant block right few o =
     let covered : covers (rightIn p) right ≡ true = ap (λ (g : ℕ). covers g right) (m .right) ∙ o .covered in
     let s : countOf roll (contractorIn p) ≡ n = ap (countOf roll) (m .contractor) ∙ o .on-roll in
     let stands = is-standing n record { odd = o .odd; below = o .below } in
+    let within = ap (λ (d : ℕ). withinHighest right (figureOf roll d)) (m .contractor) ∙ is-within right (figureOf roll c) (o .within) in
     let e = none-given (checkTries key rounds roll grant block right) (
       o .key-length,
       (
@@ -131,7 +143,7 @@ accepted key rounds roll grant block right few o =
             q,
             (
               m .grant,
-              (eq-eqb _ block (m .block), (covered, (ap inStanding s ∙ stands, (eq-eqb _ _ (m .count ∙ sym s), tt)))),
+              (eq-eqb _ block (m .block), (covered, (ap inStanding s ∙ stands, (eq-eqb _ _ (m .count ∙ sym s), (within, tt))))),
             ),
           ),
         ),

@@ -4,17 +4,19 @@ use mathlib.Core.Bool.{true}
 use Prim.Native.Nat.{ℕ}
 use lib.ListN.{length, replicate}
 use Rattle.refusal.specs.Tries.{first, answered}
-use Rattle.roll.specs.Roll.{emptyRoll, countOf, inStanding, counted}
-use Rattle.roll_changes.specs.Changes.{enterTries, enteredRoll, withdrawTries}
+use Rattle.roll.specs.Roll.{emptyRoll, countOf, figureOf, inStanding, withEntry}
+use Rattle.roll_changes.specs.Changes.{enterTries, enteredRoll, withdrawTries, changeTries}
 use Rattle.histories.specs.Histories.{enter, changed, here, IsRoll}
-use Rattle.histories.proofs.Counts.{zeros-small, changed-roll, empty-roll, left-seen, right-seen}
+use Rattle.histories.proofs.Calls.{zeros-small, changed-roll, empty-roll}
+use Rattle.histories.proofs.Counts.{left-seen, right-seen}
 use mathlib.Core.Logic.{inl, inr}
 use lib.Dec.{eqb, lit<}
 use Rattle.refusal.proofs.Tries.{none-given}
 use Rattle.refusal.proofs.Ladder.{ordered}
-use Rattle.grant.specs.Grants.{isRight}
+use Rattle.rights.specs.Rights.{isRight}
+use Rattle.rights.proofs.Rights.{within-two}
 use Rattle.issuing.specs.Issuing.{issueTries}
-use Rattle.checking.specs.Checking.{countNow, checkTries}
+use Rattle.checking.specs.Checking.{entryNow, checkTries}
 use Rattle.revocation.specs.Claims.{Issued, OpensExactlyWhen, EachRefusalFirst, IssuedOpens, OverwritingOpensReading, ReadingDoesNotOverwrite}
 use Rattle.revocation.specs.Claims.{OnlyOverwritingOverwrites, TenOnlyForOverwriting, RevokedNeverOpens, RevokedInTwoRooms, RevocationHappens}
 use Rattle.revocation.specs.Claims.{OthersUndisturbed, NumbersTellVerdicts}
@@ -31,8 +33,9 @@ opens-exactly-when key hk rounds roll grant hg block few right =
 pub each-refusal-first : EachRefusalFirst
 unfolding EachRefusalFirst
 each-refusal-first key rounds roll contractor grant block right out = record {
-  enter = ordered (enterTries contractor (countOf roll contractor)) refl;
+  enter = ordered (enterTries contractor right (countOf roll contractor)) refl;
   withdraw = ordered (withdrawTries contractor (countOf roll contractor)) refl;
+  change = ordered (changeTries contractor right (countOf roll contractor)) refl;
   issue = ordered (issueTries key rounds roll contractor block right out) refl;
   check = ordered (checkTries key rounds roll grant block right) refl;
 }
@@ -41,15 +44,15 @@ pub issued-opens : IssuedOpens
 unfolding IssuedOpens
 issued-opens = checks
 
--- contractor 7, entered on an empty roll, gets a grant with either right
-issued-7 : (right : ℕ) → isRight right ≡ true → Issued (replicate 12 0) 10 (enteredRoll emptyRoll 7) 7 300 right (replicate 12 0)
-unfolding first answered emptyRoll countOf inStanding counted enteredRoll
+-- contractor 7, entered for overwriting on an empty roll, gets a grant with either right
+pub issued-7 : (right : ℕ) → isRight right ≡ true → Issued (replicate 12 0) 10 (enteredRoll emptyRoll 7 2) 7 300 right (replicate 12 0)
+unfolding first answered emptyRoll countOf figureOf inStanding withEntry enteredRoll
 issued-7 right q =
-    let tries = issueTries (replicate 12 0) 10 (enteredRoll emptyRoll 7) 7 300 right (replicate 12 0) in
+    let tries = issueTries (replicate 12 0) 10 (enteredRoll emptyRoll 7 2) 7 300 right (replicate 12 0) in
     record {
       key-bytes = zeros-small (lit< tt) 12;
       block-small = lit< tt;
-      number = none-given tries (refl, (refl, (refl, (refl, (q, (refl, tt))))));
+      number = none-given tries (refl, (refl, (refl, (refl, (q, (refl, (within-two right q, tt)))))));
     }
 
 pub overwriting-opens-reading : OverwritingOpensReading
@@ -59,7 +62,7 @@ overwriting-opens-reading = looks
 pub reading-does-not-overwrite : ReadingDoesNotOverwrite
 unfolding ReadingDoesNotOverwrite
 reading-does-not-overwrite =
-    let c = checks (replicate 12 0) 10 (enteredRoll emptyRoll 7) 7 300 1 (replicate 12 0) (issued-7 1 refl) in
+    let c = checks (replicate 12 0) 10 (enteredRoll emptyRoll 7 2) 7 300 1 (replicate 12 0) (issued-7 1 refl) in
     (c .opens, c .only-reads refl)
 
 pub only-overwriting-overwrites : OnlyOverwritingOverwrites
@@ -69,7 +72,7 @@ only-overwriting-overwrites = overwrites
 pub ten-only-for-overwriting : TenOnlyForOverwriting
 unfolding TenOnlyForOverwriting
 ten-only-for-overwriting key rounds roll grant block right e =
-    ten key rounds (eqb (length grant) 12) grant (countNow key rounds roll grant) block right e
+    ten key rounds (eqb (length grant) 12) grant (entryNow key rounds roll grant) block right e
 
 pub revoked-never-opens : RevokedNeverOpens
 unfolding RevokedNeverOpens
@@ -80,12 +83,12 @@ unfolding RevokedInTwoRooms
 revoked-in-two-rooms key rounds roll contractor block right out i z xs ys zs m w =
     revoked-asked key rounds roll contractor block right out i z zs (elim w [ inl l ↦ left-seen m l | inr r ↦ right-seen m r ])
 
-entered-7 : IsRoll (enteredRoll emptyRoll 7)
+pub entered-7 : IsRoll (enteredRoll emptyRoll 7 2)
 unfolding changed
-entered-7 = changed-roll (enter 7) emptyRoll empty-roll
+entered-7 = changed-roll (enter 7 2) emptyRoll empty-roll
 
 pub revocation-happens : RevocationHappens
-unfolding RevocationHappens first answered emptyRoll countOf inStanding counted enteredRoll
+unfolding RevocationHappens first answered emptyRoll countOf figureOf inStanding withEntry enteredRoll
 revocation-happens = ((issued-7 2 refl, entered-7), here refl)
 
 pub others-undisturbed : OthersUndisturbed

@@ -19,13 +19,14 @@ use Rattle.roll.specs.Roll.{countOf}
 use Rattle.roll.proofs.Contractors.{Contractor, a-contractor, a-standing}
 use Rattle.histories.specs.Histories.{Change, rollAfter, Withdrawn, Withdraws, IsRoll}
 use Rattle.histories.proofs.Counts.{counted-up, asked-counts}
-use Rattle.grant.specs.Grants.{isRight, covers, plainGrant, contractorIn, countIn, sizeBlockIn}
+use Rattle.rights.specs.Rights.{isRight, covers}
+use Rattle.grant.specs.Grants.{plainGrant, contractorIn, countIn, sizeBlockIn}
 use Rattle.issuing.specs.Issuing.{issueTries, issuedGrant}
 use Rattle.judging.specs.Judging.{inputTries, askedTries, standingTries, plainTries}
-use Rattle.checking.specs.Checking.{openedGrant, countNow, checkNumber}
-use Rattle.grant.proofs.Rights.{one-or-two, right-small, covered-right, covers-itself}
+use Rattle.checking.specs.Checking.{openedGrant, entryNow, checkNumber}
+use Rattle.rights.proofs.Rights.{one-or-two, right-small, covered-right, covers-itself, covered-within}
 use Rattle.revocation.specs.Claims.{Opening, Accepted, Issued, Checks, OpensNothing}
-use Rattle.revocation.proofs.Checks.{passed, Named, named, accepted}
+use Rattle.revocation.proofs.Checks.{within-is, passed, Named, named, accepted}
 
 -- ---- plain bytes are bytes
 plain-bytes : (c n b r : ℕ) → r < 256 → AreBytes (plainGrant c n b r)
@@ -95,6 +96,7 @@ module _ (key : List ℕ) (rounds : ℕ) (roll : Roll) (contractor block right :
         on-roll = refl;
         odd = s .odd;
         below = s .below;
+        within = within-is r _ (covered-within right r _ covered (allowed .1 .1 .1 .1 .1 .1 .0));
       }
 
   abbrev g : List ℕ
@@ -109,10 +111,10 @@ module _ (key : List ℕ) (rounds : ℕ) (roll : Roll) (contractor block right :
 
   -- its check, for any size block and either right, comes to what was asked for
   comes-to-asked : (b r : ℕ) → isRight r ≡ true
-      → checkNumber key rounds roll g b r ≡ first (askedTries p b r ++ standingTries p (countNow key rounds roll g))
+      → checkNumber key rounds roll g b r ≡ first (askedTries p b r ++ standingTries p (entryNow key rounds roll g) r)
   comes-to-asked b r q =
       let l = eq-eqb (length g) 12 (issued-twelve key rounds roll contractor block right) in
-      first-then (inputTries (length key) rounds (eqb (length g) 12) r) (plainTries p (countNow key rounds roll g) b r)
+      first-then (inputTries (length key) rounds (eqb (length g) 12) r) (plainTries p (entryNow key rounds roll g) b r)
       (allowed .0, (allowed .1 .0, (l, (q, tt))))
       ∙ first-passes _ _ (names .grant)
 

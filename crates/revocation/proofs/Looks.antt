@@ -10,8 +10,10 @@ use Rattle.refusal.proofs.Tries.{none-given}
 use Rattle.refusal.proofs.Given.{given-by}
 use Rattle.refusal.proofs.Answers.{answer-done}
 use Rattle.roll.specs.declared.Roll.{Roll}
-use Rattle.grant.specs.Grants.{covers, contractorIn, sizeBlockIn, rightIn, isGrant}
-use Rattle.grant.proofs.Rights.{covers-reading, covers-overwriting, not-covered}
+use Rattle.roll.specs.declared.Entry.{Entry}
+use Rattle.rights.specs.Rights.{covers}
+use Rattle.grant.specs.Grants.{contractorIn, sizeBlockIn, rightIn, isGrant}
+use Rattle.rights.proofs.Rights.{covers-reading, covers-overwriting, not-covered, within-reading}
 use Rattle.grant.proofs.Tests.{a-grant}
 use Rattle.judging.specs.Judging.{inputTries, standingTries, plainTries}
 use Rattle.checking.specs.Checking.{openedGrant, checkTries, checkNumber, checkContractor, checkRight}
@@ -29,7 +31,8 @@ module _ (key : List ℕ) (rounds : ℕ) (roll : Roll) (grant : List ℕ) (block
       let t = h .1 .1 .1 .1 in
       let reading = covers-reading (rightIn p) (a-grant p (t .0) .right) in
       let ts : ℕ → List Try = checkTries key rounds roll grant block in
-      let e = none-given (ts 1) (h .0, (h .1 .0, (h .1 .1 .0, (refl, (t .0, (t .1 .0, (reading, t .1 .1 .1))))))) in
+      let s = t .1 .1 .1 in
+      let e = none-given (ts 1) (h .0, (h .1 .0, (h .1 .1 .0, (refl, (t .0, (t .1 .0, (reading, (s .0, (s .1 .0, (within-reading _, tt)))))))))) in
       record {
         number = e;
         answers-contractor = sym (answer-done (ts 1) (contractorIn p) 0 e) ∙ answer-done (ts 2) (contractorIn p) 0 (a .number) ∙ a .answers-contractor;
@@ -40,14 +43,14 @@ module _ (key : List ℕ) (rounds : ℕ) (roll : Roll) (grant : List ℕ) (block
   unfolding p
   overwrites e = covers-overwriting (rightIn p) (passed key rounds roll grant block 2 e .1 .1 .1 .1 .1 .1 .0)
 
--- of any input and any count: so of the check, and of the C call on a roll's bytes
-pub ten : (key : List ℕ) (rounds : ℕ) (lengths : Bool) (grant : List ℕ) (count block right : ℕ)
-    → first (inputTries (length key) rounds lengths right ++ plainTries (openedGrant key rounds grant) count block right) ≡ 10
+-- of any input and any entry: so of the check, and of the C call on a roll's bytes
+pub ten : (key : List ℕ) (rounds : ℕ) (lengths : Bool) (grant : List ℕ) (entry : Entry) (block right : ℕ)
+    → first (inputTries (length key) rounds lengths right ++ plainTries (openedGrant key rounds grant) entry block right) ≡ 10
     → ReadingGrant key rounds grant right
-ten key rounds lengths grant count block right e =
+ten key rounds lengths grant entry block right e =
     let p = openedGrant key rounds grant in
     let before : List Try = inputTries (length key) rounds lengths right ++ ((8 unless isGrant p) ∷ (9 unless eqb (sizeBlockIn p) block) ∷ []) in
-    let g = given-by 10 (lit< tt) (covers (rightIn p) right) (standingTries p count) refl before refl e in
+    let g = given-by 10 (lit< tt) (covers (rightIn p) right) (standingTries p entry right) refl before refl e in
     let whole = g .0 .1 .1 .1 .1 .0 in
     let n = not-covered (rightIn p) right (a-grant p whole .right) (g .0 .1 .1 .1 .0) (g .1) in
     record { asked = n .1; whole = whole; reads = n .0 }

@@ -1,5 +1,5 @@
 -- Checks of other contractors' grants, and verdicts by their numbers.
-use mathlib.Core.Path.{_≡_, refl, ap}
+use mathlib.Core.Path.{_≡_, ap}
 use mathlib.Core.List.{List, _++_}
 use Prim.Native.Nat.{ℕ}
 use native.Mathlib.Omega.{arith}
@@ -10,31 +10,42 @@ use Rattle.refusal.proofs.Claims.{numbers-tell-reasons}
 use Rattle.refusal.proofs.Reasons.{reason-positive}
 use Rattle.refusal.specs.Tries.{first, answered}
 use Rattle.roll.specs.declared.Roll.{Roll}
+use Rattle.roll.specs.declared.Entry.{Entry}
+use Rattle.roll.specs.Roll.{entryOf}
 use Rattle.histories.specs.Histories.{Change, contractorOf, changed}
-use Rattle.histories.proofs.Counts.{changed-other}
+use Rattle.histories.proofs.Calls.{changed-other}
 use Rattle.grant.specs.declared.Verdict.{Verdict}
 use Rattle.grant.specs.declared.Verdict.the-variants.{Opens, Refused}
 use Rattle.grant.specs.Grants.{contractorIn, verdictNumber, verdictContractor, verdictRight}
-use Rattle.grant.proofs.Rights.{right-tells}
+use Rattle.rights.proofs.Rights.{right-tells}
 use Rattle.judging.specs.Judging.{inputTries, plainTries}
 use Rattle.checking.specs.Checking.{openedGrant, checkNumber, checkContractor, checkRight}
 use Rattle.revocation.specs.Claims.{SameCheck}
 
--- ---- others
-module _ (key : List ℕ) (rounds : ℕ) (roll : Roll) (grant : List ℕ) (block asked : ℕ) (h : Change)
-    (n : contractorIn (openedGrant key rounds grant) ≡ contractorOf h → ⊥) where
-  same-number : checkNumber key rounds (changed h roll) grant block asked ≡ checkNumber key rounds roll grant block asked
-  same-number =
-      ap (λ (m : ℕ). first (inputTries (length key) rounds (eqb (length grant) 12) asked ++ plainTries (openedGrant key rounds grant) m block asked))
-      (changed-other h roll (contractorIn (openedGrant key rounds grant)) n)
-
-  pub same-check : SameCheck key rounds roll (changed h roll) grant block asked
+-- ---- two rolls
+module _ (key : List ℕ) (rounds : ℕ) (roll other : Roll) (grant : List ℕ) (block asked : ℕ) where
+  -- a check that gives the same number answers the same
+  pub same-answers : checkNumber key rounds other grant block asked ≡ checkNumber key rounds roll grant block asked
+      → SameCheck key rounds roll other grant block asked
   unfolding checkContractor checkRight
-  same-check = record {
-    number = same-number;
-    answers-contractor = ap (λ (m : ℕ). answered m (contractorIn (openedGrant key rounds grant)) 0) same-number;
-    answers-right = ap (λ (m : ℕ). answered m asked 0) same-number;
+  same-answers e = record {
+    number = e;
+    answers-contractor = ap (λ (m : ℕ). answered m (contractorIn (openedGrant key rounds grant)) 0) e;
+    answers-right = ap (λ (m : ℕ). answered m asked 0) e;
   }
+
+  -- on rolls that have the same entry for the grant's contractor
+  pub same-entry : entryOf other (contractorIn (openedGrant key rounds grant)) ≡ entryOf roll (contractorIn (openedGrant key rounds grant))
+      → SameCheck key rounds roll other grant block asked
+  same-entry e =
+      same-answers (ap (λ (m : Entry). first (inputTries (length key) rounds (eqb (length grant) 12) asked
+      ++ plainTries (openedGrant key rounds grant) m block asked)) e)
+
+-- so of another contractor's grant after a call
+pub same-check : (key : List ℕ) (rounds : ℕ) (roll : Roll) (grant : List ℕ) (block asked : ℕ) (h : Change)
+    → (contractorIn (openedGrant key rounds grant) ≡ contractorOf h → ⊥) → SameCheck key rounds roll (changed h roll) grant block asked
+same-check key rounds roll grant block asked h n =
+    same-entry key rounds roll (changed h roll) grant block asked (changed-other h roll (contractorIn (openedGrant key rounds grant)) n)
 
 -- ---- verdicts
 pub verdicts-told : (v w : Verdict)

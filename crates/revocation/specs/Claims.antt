@@ -1,5 +1,5 @@
 -- What is claimed of grants: demand 2's second half; document 01, "Roll and grant", "Reasons" and the order lines; request 1, "Looking before
--- overwriting". A term of each type stands in proofs/Claims.antt.
+-- overwriting"; request 6, "Demoting without dropping". A term of each type stands in proofs/Claims.antt.
 use mathlib.Core.Bool.{true, false}
 use mathlib.Core.Logic.{_⊎_}
 use mathlib.Core.Path.{_≡_}
@@ -10,17 +10,19 @@ use Rattle.refusal.specs.Claims.{Ordered}
 use Rattle.basics.specs.Bytes.{AreBytes}
 use Rattle.sizes.specs.Sizes.{keyLength, roundsAllowed}
 use Rattle.roll.specs.declared.Roll.{Roll}
-use Rattle.roll.specs.Roll.{emptyRoll, countOf}
-use Rattle.roll_changes.specs.Changes.{enterTries, enteredRoll, withdrawTries}
+use Rattle.roll.specs.Roll.{emptyRoll, countOf, figureOf}
+use Rattle.roll_changes.specs.Changes.{enterTries, enteredRoll, withdrawTries, changeTries}
 use Rattle.histories.specs.Histories.{Change, withdraw, contractorOf, changed, rollAfter, Withdrawn, Withdraws, Merge, IsRoll}
 use Rattle.grant.specs.declared.Verdict.{Verdict}
-use Rattle.grant.specs.Grants.{isRight, covers, plainGrant, contractorIn, rightIn, isGrant, verdictNumber, verdictContractor, verdictRight}
+use Rattle.rights.specs.Rights.{isRight, covers, highest}
+use Rattle.grant.specs.Grants.{plainGrant, contractorIn, rightIn, isGrant, verdictNumber, verdictContractor, verdictRight}
 use Rattle.issuing.specs.Issuing.{issueTries, issueNumber, issuedGrant}
 use Rattle.checking.specs.Checking.{openedGrant, checkTries, checkNumber, checkContractor, checkRight}
 
 -- ---- a grant opens exactly when
 -- none of the input reasons holds; the grant deciphers to the plain bytes of a grant to a contractor, 1 to 200, for that size block and
--- with a right that covers the one asked for; and the roll has that contractor in standing, with the count that is written in it
+-- with a right that covers the one asked for; the roll has that contractor in standing, with the count that is written in it; and the right asked for is
+-- not above the highest that the roll has for them
 pub record Opening (key : List ℕ) (rounds : ℕ) (roll : Roll) (grant : List ℕ) (block right : ℕ) : Type 0 where
   pub key-length : keyLength (length key) ≡ true
   pub round-count : roundsAllowed (length key) rounds ≡ true
@@ -36,6 +38,7 @@ pub record Opening (key : List ℕ) (rounds : ℕ) (roll : Roll) (grant : List �
   pub on-roll : countOf roll contractor ≡ count
   pub odd : count % 2 ≡ 1
   pub below : count < 65535
+  pub within : right ≤ highest (figureOf roll contractor)
 
 -- a check that is not refused: it answers with this contractor, and with the right that was asked for
 pub record Accepted (key : List ℕ) (rounds : ℕ) (roll : Roll) (grant : List ℕ) (block right contractor : ℕ) : Type 0 where
@@ -51,8 +54,9 @@ OpensExactlyWhen = (key : List ℕ) → AreBytes key → (rounds : ℕ) (roll : 
 
 -- ---- each refusal has its reason, and the first in order is given
 pub record OrderOfCalls (key : List ℕ) (rounds : ℕ) (roll : Roll) (contractor : ℕ) (grant : List ℕ) (block right : ℕ) (out : List ℕ) : Type 0 where
-  pub enter : Ordered (enterTries contractor (countOf roll contractor))
+  pub enter : Ordered (enterTries contractor right (countOf roll contractor))
   pub withdraw : Ordered (withdrawTries contractor (countOf roll contractor))
+  pub change : Ordered (changeTries contractor right (countOf roll contractor))
   pub issue : Ordered (issueTries key rounds roll contractor block right out)
   pub check : Ordered (checkTries key rounds roll grant block right)
 
@@ -88,12 +92,12 @@ unfoldable pub OverwritingOpensReading : Type 0
 OverwritingOpensReading = (key : List ℕ) (rounds : ℕ) (roll : Roll) (grant : List ℕ) (block contractor : ℕ)
     → Accepted key rounds roll grant block 2 contractor → Accepted key rounds roll grant block 1 contractor
 
--- not the other way round. Under a key of twelve zeros with ten rounds, contractor 7 is entered on an empty roll and gets a grant to read size
--- block 300: it opens for reading, and asked for overwriting it is refused with 10
+-- not the other way round. Under a key of twelve zeros with ten rounds, contractor 7 is entered for overwriting on an empty roll and gets a grant to
+-- read size block 300: it opens for reading, and asked for overwriting it is refused with 10
 unfoldable pub ReadingDoesNotOverwrite : Type 0
 ReadingDoesNotOverwrite =
-    Accepted (replicate 12 0) 10 (enteredRoll emptyRoll 7) (issuedGrant (replicate 12 0) 10 (enteredRoll emptyRoll 7) 7 300 1) 300 1 7
-    × (checkNumber (replicate 12 0) 10 (enteredRoll emptyRoll 7) (issuedGrant (replicate 12 0) 10 (enteredRoll emptyRoll 7) 7 300 1) 300 2 ≡ 10)
+    Accepted (replicate 12 0) 10 (enteredRoll emptyRoll 7 2) (issuedGrant (replicate 12 0) 10 (enteredRoll emptyRoll 7 2) 7 300 1) 300 1 7
+    × (checkNumber (replicate 12 0) 10 (enteredRoll emptyRoll 7 2) (issuedGrant (replicate 12 0) 10 (enteredRoll emptyRoll 7 2) 7 300 1) 300 2 ≡ 10)
 
 -- only a grant to overwrite opens for overwriting
 unfoldable pub OnlyOverwritingOverwrites : Type 0
@@ -115,7 +119,7 @@ TenOnlyForOverwriting = (key : List ℕ) (rounds : ℕ) (roll : Roll) (grant : L
 abbrev pub OpensNothing : List ℕ → ℕ → Roll → List ℕ → Type 0
 OpensNothing key rounds roll grant = (block right : ℕ) → checkNumber key rounds roll grant block right ≡ 0 → ⊥
 
--- whatever is entered and withdrawn on the roll that a grant was issued from: once its contractor's withdrawal was accepted, it opens
+-- whatever is entered, withdrawn and changed on the roll that a grant was issued from: once its contractor's withdrawal was accepted, it opens
 -- nothing, under the key and round count that it was issued with
 unfoldable pub RevokedNeverOpens : Type 0
 RevokedNeverOpens = (key : List ℕ) (rounds : ℕ) (roll : Roll) (contractor block right : ℕ) (out : List ℕ)
@@ -131,15 +135,15 @@ RevokedInTwoRooms = (key : List ℕ) (rounds : ℕ) (roll : Roll) (contractor bl
     → (xs ys zs : List Change) → Merge xs ys zs → Withdraws contractor xs ⊎ Withdraws contractor ys
     → OpensNothing key rounds (rollAfter zs roll) (issuedGrant key rounds roll contractor block right)
 
--- there are such issues and withdrawals: under a key of twelve zeros with ten rounds, contractor 7 is entered on an empty roll, gets a grant, and
--- is withdrawn
+-- there are such issues and withdrawals: under a key of twelve zeros with ten rounds, contractor 7 is entered for overwriting on an empty roll, gets a
+-- grant, and is withdrawn
 unfoldable pub RevocationHappens : Type 0
 RevocationHappens =
-    (Issued (replicate 12 0) 10 (enteredRoll emptyRoll 7) 7 300 2 (replicate 12 0) × IsRoll (enteredRoll emptyRoll 7))
-    × Withdrawn 7 (withdraw 7 ∷ []) (enteredRoll emptyRoll 7)
+    (Issued (replicate 12 0) 10 (enteredRoll emptyRoll 7 2) 7 300 2 (replicate 12 0) × IsRoll (enteredRoll emptyRoll 7 2))
+    × Withdrawn 7 (withdraw 7 ∷ []) (enteredRoll emptyRoll 7 2)
 
 -- ---- others
--- entering or withdrawing a contractor changes no check of a grant to another
+-- entering or withdrawing a contractor, or changing their right, changes no check of a grant to another
 pub record SameCheck (key : List ℕ) (rounds : ℕ) (roll other : Roll) (grant : List ℕ) (block right : ℕ) : Type 0 where
   pub number : checkNumber key rounds other grant block right ≡ checkNumber key rounds roll grant block right
   pub answers-contractor : checkContractor key rounds other grant block right ≡ checkContractor key rounds roll grant block right

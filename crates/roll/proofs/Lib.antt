@@ -1,2 +1,3 @@
 pub mod Contractors
+pub mod Entries
 pub mod KnownAnswers

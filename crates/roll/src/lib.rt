@@ -1,14 +1,20 @@
-// The roll by value: a count for each contractor.
+// The roll by value: for each contractor a count, and a figure for the highest right.
 
 ghost use mathlib.Core.Path.{_≡_};
 ghost use mathlib.Core.Bool.{true};
-ghost use Prim.Native.Nat.{_<_};
-ghost use Rattle.roll.specs.Roll.{emptyRoll, isContractor, countOf, inStanding, counted};
+ghost use Rattle.roll.specs.Roll.{emptyRoll, isContractor, entryOf, inStanding, withEntry};
 use basics::both;
 
-// The count of contractor c stands at c - 1.
+// Count and figure of contractor c stand at c - 1. The figure 2 stands for overwriting, and any other for reading only.
 pub struct Roll {
     pub counts: [u16; 200],
+    pub rights: [u8; 200],
+}
+
+// What the roll has of one contractor.
+pub struct Entry {
+    pub count: u16,
+    pub figure: u8,
 }
 
 // A roll on which nobody was ever entered.
@@ -17,6 +23,7 @@ pub fn empty() -> Roll
 {
     Roll {
         counts: [0u16; 200],
+        rights: [1u8; 200],
     }
 }
 
@@ -26,16 +33,20 @@ pub fn is_contractor(c: u32) -> bool
     both(1 <= c, c <= 200)
 }
 
-// The count of a contractor, and 0 for a number that is nobody's.
-pub fn count_of(roll: Roll, c: u32) -> u16
-    ensures { λ r. ⌜ r ≡ countOf roll c ⌝ }
+// The entry of a contractor, and zeros for a number that is nobody's.
+pub fn entry_of(roll: Roll, c: u32) -> Entry
+    ensures { λ r. ⌜ r ≡ entryOf roll c ⌝ }
 {
     if !is_contractor(c) {
-        return 0;
+        return Entry { count: 0, figure: 0 };
     }
     let counts = roll.counts;
+    let rights = roll.rights;
     let at = (c - 1) as usize;
-    counts[at]
+    Entry {
+        count: counts[at],
+        figure: rights[at],
+    }
 }
 
 // The count is odd and below 65,535.
@@ -45,13 +56,15 @@ pub fn is_in_standing(n: u16) -> bool
     both(n % 2 == 1, n < 65535)
 }
 
-// The roll with 1 added to a contractor's count.
-pub fn add_one(roll: Roll, c: u32) -> Roll
-    requires { ⌜ (isContractor c ≡ true) × (countOf roll c < 65535) ⌝ }
-    ensures { λ r. ⌜ r ≡ counted roll c ⌝ }
+// The roll with another entry for a contractor.
+pub fn with_entry(roll: Roll, c: u32, entry: Entry) -> Roll
+    requires { ⌜ isContractor c ≡ true ⌝ }
+    ensures { λ r. ⌜ r ≡ withEntry roll c entry ⌝ }
 {
     let mut counts = roll.counts;
+    let mut rights = roll.rights;
     let at = (c - 1) as usize;
-    counts[at] = counts[at] + 1;
-    Roll { counts }
+    counts[at] = entry.count;
+    rights[at] = entry.figure;
+    Roll { counts, rights }
 }

@@ -1,12 +1,15 @@
 -- A term of each type of specs/Lemmas.antt.
-use mathlib.Core.Path.{_≡_, refl}
-use mathlib.Core.List.{List, [], _∷_}
+use mathlib.Core.Path.{_≡_, refl, ap, _∙_}
+use mathlib.Core.List.{List, [], _∷_, _++_}
 use Prim.Native.Nat.{ℕ, suc, _<_}
-use lib.ListN.{getD}
+use native.Mathlib.Omega.{arith}
+use lib.ListN.{length, getD, take, drop, take-append-drop}
+use lib.Seq.{length-take-le, take-at, drop-at}
+use Rattle.basics.proofs.Bytes.{take-bytes}
 use Rattle.numbers.proofs.Laws.{two-again}
-use Rattle.roll_bytes.specs.RollBytes.{countsOf, countsBytes, rollOf, rollBytes}
+use Rattle.roll_bytes.specs.RollBytes.{countsLength, countsOf, countsBytes, rollOf, rollBytes}
 use Rattle.roll_bytes.specs.Lemmas.{BytesTellRoll, RollTellsBytes}
-use Rattle.roll_bytes.proofs.Pairs.{bytes-again}
+use Rattle.roll_bytes.proofs.Pairs.{length-bytes, bytes-again}
 
 counts-again : (ns : List ℕ) → ((i : ℕ) → getD ns i 0 < 65536) → countsOf (countsBytes ns) ≡ ns
 unfolding countsOf countsBytes
@@ -15,8 +18,18 @@ counts-again (n ∷ ns) h = λ i. two-again n (h 0) i ∷ counts-again ns (λ j.
 
 pub bytes-tell-roll : BytesTellRoll
 unfolding BytesTellRoll rollOf rollBytes
-bytes-tell-roll bytes h e = bytes-again bytes 200 e h
+bytes-tell-roll bytes h e =
+    let front = take countsLength bytes in
+    ap (λ (x : List ℕ). x ++ drop countsLength bytes)
+    (bytes-again front 200 (length-take-le countsLength bytes (omega (arith, e))) (take-bytes countsLength bytes h))
+    ∙ take-append-drop countsLength bytes
 
 pub roll-tells-bytes : RollTellsBytes
 unfolding RollTellsBytes rollOf rollBytes
-roll-tells-bytes roll h = λ i. record { counts = counts-again (roll .counts) h i }
+roll-tells-bytes roll many small i =
+    let front = countsBytes (roll .counts) in
+    let long : length front ≡ countsLength = length-bytes (roll .counts) ∙ omega (arith, many) in
+    record {
+      counts = (ap countsOf (take-at front (roll .rights) countsLength long) ∙ counts-again (roll .counts) small) i;
+      rights = drop-at front (roll .rights) countsLength long i;
+    }

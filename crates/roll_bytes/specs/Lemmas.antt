@@ -7,10 +7,10 @@ use Rattle.basics.specs.Bytes.{AreBytes}
 use Rattle.roll.specs.declared.Roll.{Roll}
 use Rattle.roll_bytes.specs.RollBytes.{rollLength, rollOf, rollBytes}
 
--- a roll read from 400 bytes has those bytes
+-- a roll read from 600 bytes has those bytes
 unfoldable pub BytesTellRoll : Type 0
 BytesTellRoll = (bytes : List ℕ) → AreBytes bytes → length bytes ≡ rollLength → rollBytes (rollOf bytes) ≡ bytes
 
--- and the roll read from a roll's bytes is that roll, where its counts are 16-bit numbers
+-- and the roll read from a roll's bytes is that roll, where it has 200 counts and they are 16-bit numbers
 unfoldable pub RollTellsBytes : Type 0
-RollTellsBytes = (roll : Roll) → ((i : ℕ) → getD (roll .counts) i 0 < 65536) → rollOf (rollBytes roll) ≡ roll
+RollTellsBytes = (roll : Roll) → length (roll .counts) ≡ 200 → ((i : ℕ) → getD (roll .counts) i 0 < 65536) → rollOf (rollBytes roll) ≡ roll

@@ -1,63 +1,69 @@
 -- What the C calls that change a roll's bytes have to show, whichever change it is: what is tried after the bytes' length is `tries` of the
--- contractor's count.
-use mathlib.Core.Path.{_≡_, refl, sym, ap, _∙_}
-use mathlib.Core.Bool.{true}
-use mathlib.Core.List.{List, _++_}
-use Prim.Native.Nat.{ℕ, zero, suc, _<_}
+-- contractor's count, and the entry becomes `new` of it.
+use mathlib.Core.Path.{_≡_, refl, sym, ap, _∙_, subst⁻¹}
+use mathlib.Core.Bool.{Bool, true, false}
+use mathlib.Core.List.{List, [], _++_}
+use Prim.Native.Nat.{ℕ}
 use native.Mathlib.Omega.{arith}
-use lib.ListN.{length, drop}
+use lib.ListN.{length}
 use borrow.Author.Tests.{eqb-true}
-use Rattle.refusal.specs.Tries.{Try, first, after, NoneHolds, written, answered}
+use Rattle.refusal.specs.Tries.{Try, first, after, isRefused, NoneHolds, written, answered}
 use Rattle.refusal.proofs.Tries.{none-given}
-use Rattle.refusal.proofs.Answers.{kept, answer-done}
-use Rattle.refusal.proofs.Ladder.{numbered, after-zero, then, all-pass}
+use Rattle.refusal.proofs.Answers.{answer-done, put-all}
+use Rattle.refusal.proofs.Ladder.{numbered, after-zero, then, all-passed, returns-refused, returns-done}
 use Rattle.roll.specs.declared.Roll.{Roll}
-use Rattle.roll.specs.Roll.{isContractor, countOf, counted}
-use Rattle.roll_bytes.specs.RollBytes.{rollOf, rollBytes, rollTries}
-use Rattle.roll_bytes.specs.ForProver.{Countable}
+use Rattle.roll.specs.declared.Entry.{Entry}
+use Rattle.roll.specs.Roll.{countOf, withEntry}
+use Rattle.roll_bytes.specs.RollBytes.{rollLength, rollOf, rollBytes, rollTries}
 
-by-number : (n : ℕ) (roll : List ℕ) (rest : List Try) (new old : Roll) → (n ≡ 0 → first rest ≡ 0)
-    → written n (rollBytes new) roll ≡ written n (rollBytes (answered (first rest) new old)) roll
-unfolding written
-by-number zero roll rest new old h =
-    ap (λ (r : Roll). rollBytes r ++ drop (length (rollBytes r)) roll) (answer-done rest new old (h refl))
-by-number (suc n) roll rest new old h =
-    sym (kept (suc n) (rollBytes new) roll (omega arith)) ∙ kept (suc n) (rollBytes (answered (first rest) new old)) roll (omega arith)
+-- what ran before the call's test of its tries: their numbers, the count that was read, and the test
+pub record Ran (tries : ℕ → List Try) (c : ℕ) (bytes : List ℕ) : Type 0 where
+  pub long-number : ℕ
+  pub count : ℕ
+  pub number : ℕ
+  pub test : Bool
+  pub is-long : long-number ≡ after 0 (rollTries (length bytes))
+  pub is-count : count ≡ countOf (rollOf bytes) c
+  pub is-number : number ≡ after long-number (tries count)
+  pub is-test : test ≡ isRefused number
 
--- c is the contractor, n the count that the code reads, r₀ and r the numbers of its tries
-module _ (tries : ℕ → List Try) (c : ℕ) (bytes : List ℕ) where
-  rest : List Try
+module _ {tries : ℕ → List Try} {c : ℕ} {bytes : List ℕ} (w : Ran tries c bytes) where
+  abbrev rest : List Try
   rest = tries (countOf (rollOf bytes) c)
 
-  new : Roll
-  new = counted (rollOf bytes) c
-
   abbrev all : List Try
-  all = rollTries (length bytes) ++ tries (countOf (rollOf bytes) c)
+  all = rollTries (length bytes) ++ rest
 
-  module _ (r₀ n r : ℕ) (e₀ : r₀ ≡ after 0 (rollTries (length bytes))) (en : n ≡ countOf (rollOf bytes) c) (er : r ≡ after r₀ (tries n)) where
-    pub tried : r ≡ first all
-    tried = then r r₀ (rollTries (length bytes)) (tries (countOf (rollOf bytes) c)) refl (e₀ ∙ after-zero 0 (rollTries (length bytes)) refl)
-        (er ∙ ap (λ (m : ℕ). after r₀ (tries m)) en)
+  tried : w .number ≡ first all
+  tried = then (w .number) (w .long-number) (rollTries (length bytes)) rest refl (w .is-long ∙ after-zero 0 (rollTries (length bytes)) refl)
+      (w .is-number ∙ ap (λ (m : ℕ). after (w .long-number) (tries m)) (w .is-count))
 
-    module _ (numbers : numbered all ≡ true) where
-      passed : first all ≡ 0 → NoneHolds all
-      passed e = all-pass all numbers e
+  -- where nothing is refused: the bytes are a roll's, and the tries of the count that was read passed
+  module _ (numbers : numbered all ≡ true) (h : w .test ≡ false) where
+    passed : NoneHolds all
+    passed = all-passed (w .number) all tried (w .test) (w .is-test) numbers h
 
-      -- where nothing is refused, the count can be added to
-      pub countable : ((m : ℕ) → NoneHolds (tries m) → (isContractor c ≡ true) × (m < 65535)) → r ≡ 0 → Countable bytes c
-      countable may z =
-          let p = passed (sym tried ∙ z) in
-          let m = may (countOf (rollOf bytes) c) (p .1) in
-          record { long = eqb-true _ _ (p .0); contractor = m .0; room = m .1 }
+    pub long : length bytes ≡ rollLength
+    long = eqb-true _ _ (passed .0)
 
-      -- what the code returns and leaves is what is said of the call
-      pub changed : (x : ℕ) (out : List ℕ) → x ≡ r → out ≡ written r (rollBytes (counted (rollOf bytes) c)) bytes
-          → (x ≡ first all)
-          × (out ≡ written (first all) (rollBytes (answered (first (tries (countOf (rollOf bytes) c))) (counted (rollOf bytes) c) (rollOf bytes))) bytes)
-      unfolding rest new
-      changed x out ex eo = (
-        ex ∙ tried,
-        eo ∙ ap (λ (n : ℕ). written n (rollBytes new) bytes) tried
-            ∙ by-number (first all) bytes rest new (rollOf bytes) (λ z. none-given rest (passed z .1)),
-      )
+    pub allowed : NoneHolds (tries (w .count))
+    allowed = subst⁻¹ (λ (m : ℕ). NoneHolds (tries m)) (w .is-count) (passed .1)
+
+  module _ (new : ℕ → Entry) where
+    abbrev made : Roll
+    made = withEntry (rollOf bytes) c (new (countOf (rollOf bytes) c))
+
+    -- what is said of the call: x is what it returns, out what it leaves
+    abbrev pub Leaves : ℕ → List ℕ → Type 0
+    Leaves x out = (x ≡ first all) × (out ≡ written (first all) (rollBytes (answered (first rest) made (rollOf bytes))) bytes)
+
+    pub refused : w .test ≡ true → (x : ℕ) → x ≡ w .number → Leaves x bytes
+    refused h x ex = (ex ∙ tried, returns-refused (w .number) all tried (w .test) (w .is-test) _ bytes h .1)
+
+    pub done : numbered all ≡ true → w .test ≡ false → (e : Entry) → e ≡ new (w .count) → (out : List ℕ)
+        → out ≡ rollBytes (withEntry (rollOf bytes) c e) → length out ≡ length bytes → Leaves 0 out
+    done numbers h e ee out eo same =
+        let z = returns-done (w .number) all tried (w .test) (w .is-test) [] bytes h .0 in
+        let answers = answer-done rest made (rollOf bytes) (none-given rest (passed numbers h .1)) in
+        let whole = eo ∙ ap (λ (x : Entry). rollBytes (withEntry (rollOf bytes) c x)) (ee ∙ ap new (w .is-count)) ∙ ap rollBytes answers in
+        (z, whole ∙ put-all (first all) _ bytes (sym z) (omega (arith, same, ap length whole)))

@@ -1,15 +1,15 @@
 -- Every whole holder is a key's at its number, so what holds at the places of a key holds of every whole holder.
 use mathlib.Core.Path.{_≡_, refl, sym, ap, _∙_, subst}
 use mathlib.Core.Bool.{true}
-use mathlib.Core.List.{List, [], _∷_, _++_}
+use mathlib.Core.List.{List, [], _++_}
 use Prim.Native.Nat.{ℕ, zero, suc, _-_, _*_, _<_}
 use native.Mathlib.Omega.{arith}
-use lib.Dec.{lit<}
 use lib.ListN.{length, take, drop, replicate, length-drop, take-append-drop}
 use lib.Seq.{length-take-le}
 use Rattle.refusal.proofs.Tries.{first-passes, none-given}
 use Rattle.refusal.proofs.Answers.{answer-done}
 use Rattle.basics.specs.Bytes.{AreBytes}
+use Rattle.basics.proofs.Bytes.{take-bytes}
 use Rattle.sizes.specs.Sizes.{keyLength, tOf, turn}
 use Rattle.stages.specs.Columns.{IsStage, padded}
 use Rattle.stages.specs.Stages.{stage}
@@ -29,12 +29,6 @@ use Rattle.routes.proofs.Ring.{full-turn}
 use Rattle.routes.proofs.At.{steps-at}
 
 -- ---- a whole holder's bytes are its stage's, and zeros
-take-bytes : (n : ℕ) (bs : List ℕ) → AreBytes bs → AreBytes (take n bs)
-take-bytes zero bs h i = lit< tt
-take-bytes (suc n) [] h i = lit< tt
-take-bytes (suc n) (b ∷ bs) h zero = h 0
-take-bytes (suc n) (b ∷ bs) h (suc i) = take-bytes n bs (λ j. h (suc j)) i
-
 -- a key of which a holder is at its number
 pub record Key (h : Holder) : Type 0 where
   pub key : List ℕ

@@ -19,7 +19,8 @@ use Rattle.cipher.specs.Cipher.{cipherBlock}
 use Rattle.roll.specs.declared.Roll.{Roll}
 use Rattle.grant.specs.declared.Verdict.{Verdict}
 use Rattle.grant.specs.declared.Verdict.the-variants.{Opens, Refused}
-use Rattle.grant.specs.Grants.{isRight, covers, contractorIn, verdictNumber, verdictContractor, verdictRight}
+use Rattle.rights.specs.Rights.{isRight, covers}
+use Rattle.grant.specs.Grants.{contractorIn, verdictNumber, verdictContractor, verdictRight}
 use Rattle.judging.proofs.Verdicts.{Tells, verdict-refused, verdict-passed}
 use Rattle.issuing.specs.Issuing.{issueTries, issueNumber, issuedGrant, issueOutput}
 use Rattle.checking.specs.Checking.{openedGrant, checkTries, checkNumber, checkContractor, checkRight}

@@ -8,7 +8,7 @@ use Rattle.roll.specs.declared.Roll.{Roll}
 use Rattle.grant.specs.declared.Grant.{Grant}
 use Rattle.grant.specs.declared.Verdict.{Verdict}
 use Rattle.grant.specs.declared.Verdict.the-variants.{Opens}
-use Rattle.grant.specs.Grants.{rightNumber, isRight, covers}
+use Rattle.rights.specs.Rights.{rightNumber, isRight, covers}
 use Rattle.issuing.specs.Issuing.{issueTries}
 use Rattle.revocation.specs.Claims.{Opening}
 

@@ -11,11 +11,12 @@ use Rattle.refusal.specs.Reasons.{outcomeNumber}
 use Rattle.refusal.specs.Tries.{Try, first, NoneHolds, answered}
 use Rattle.refusal.proofs.Ladder.{all-passed, positive-refused}
 use Rattle.basics.proofs.Tests.{and-second}
-use Rattle.roll.specs.Roll.{countOf}
+use Rattle.roll.specs.declared.Entry.{Entry}
+use Rattle.roll.specs.Roll.{entryOf}
 use Rattle.roll_bytes.specs.RollBytes.{rollLength, rollOf}
 use Rattle.grant.specs.Grants.{contractorIn}
 use Rattle.judging.specs.Judging.{inputTries, plainTries}
-use Rattle.checking.specs.Checking.{openedGrant, countNow}
+use Rattle.checking.specs.Checking.{openedGrant, entryNow}
 use Rattle.check_call.specs.CheckCall.{callCode}
 use Rattle.check_call.proofs.Codes.{contractor-most, call-refused, call-judged}
 use borrow.Author.Needs.{needs}
@@ -31,11 +32,11 @@ input s =
     let a = s .args in
     inputTries (length (now (a .key))) (a .rounds) (eqb (length (now (a .roll))) rollLength && eqb (length (now (a .grant))) 12) (a .right)
 
-abbrev rest : tie.Start → List ℕ → ℕ → List Try
+abbrev rest : tie.Start → List ℕ → Entry → List Try
 rest s p n = plainTries p n (s .args .size-block) (s .args .right)
 
--- the call's number, from plain bytes and a count
-abbrev code : tie.Start → List ℕ → ℕ → ℕ
+-- the call's number, from plain bytes and an entry
+abbrev code : tie.Start → List ℕ → Entry → ℕ
 code s p n = answered (first (input s ++ rest s p n)) (1000 * s .args .right + contractorIn p) (first (input s ++ rest s p n))
 
 tried : (c : tie.After-is-refused) → outcomeNumber (c .before .try-input .result) ≡ first (input (start c))
@@ -54,7 +55,7 @@ returns c =
     let s = start k in
     let a = s .args in
     let p = openedGrant (now (a .key)) (a .rounds) (now (a .grant)) in
-    let n = countNow (now (a .key)) (a .rounds) (rollOf (now (a .roll))) (now (a .grant)) in
+    let n = entryNow (now (a .key)) (a .rounds) (rollOf (now (a .roll))) (now (a .grant)) in
     c .outcome-number .ensures
     ∙ call-refused (input s) (rest s p n) _ (1000 * a .right + contractorIn p)
     (positive-refused _ (sym (k .is-refused .ensures) ∙ c .before .if1 .taken)) (tried k)
@@ -71,7 +72,7 @@ verdict-code-requires c κs =
     let n = c .before .before in
     let o = n .before .before .before in
     let a = start (o .before .before) .args in
-    contractor-most (o .open .result) (n .count-in .result) (a .size-block) (a .right) (c .judge .result) (c .judge .ensures .1 .0)
+    contractor-most (o .open .result) (n .entry-in .result) (a .size-block) (a .right) (c .judge .result) (c .judge .ensures .1 .0)
 
 returns-2 : tie.Need-returns-2
 unfolding callCode
@@ -84,9 +85,9 @@ returns-2 c =
     let a = s .args in
     let p = o .open .result in
     let e = o .open .ensures in
-    let ec = n .count-in .ensures ∙ ap (countOf (rollOf (now (a .roll)))) (n .before .contractor-in .ensures ∙ ap contractorIn e) in
+    let ec = n .entry-in .ensures ∙ ap (entryOf (rollOf (now (a .roll)))) (n .before .contractor-in .ensures ∙ ap contractorIn e) in
     c .verdict-code .ensures
-    ∙ call-judged (input s) (rest s p (n .count-in .result)) (contractorIn p) (a .right) (j .judge .result) (passed d) (j .judge .ensures)
+    ∙ call-judged (input s) (rest s p (n .entry-in .result)) (contractorIn p) (a .right) (j .judge .result) (passed d) (j .judge .ensures)
     ∙ ap₂ (code s) e ec
 
 pub check-spec : {M : Type 1} → statement M

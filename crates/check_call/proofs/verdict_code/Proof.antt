@@ -4,7 +4,7 @@ use Prim.Native.Nat.{ℕ, _+_, _*_}
 use native.Mathlib.Omega.{arith}
 use Rattle.grant.specs.Grants.{verdictContractor}
 use Rattle.check_call.specs.CheckCall.{verdictCode}
-use Rattle.grant.proofs.Rights.{right-numbered}
+use Rattle.rights.proofs.Rights.{right-numbered}
 use borrow.Author.Needs.{needs}
 use Rattle.check_call.proofs.verdict_code.Statement.{statement}
 use Rattle.check_call.proofs.verdict_code.Tie as tie

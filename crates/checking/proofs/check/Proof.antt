@@ -11,10 +11,11 @@ use Rattle.refusal.specs.Tries.{Try, first, answered, NoneHolds}
 use Rattle.refusal.proofs.Reasons.{reason-positive}
 use Rattle.refusal.proofs.Tries.{first-before, first-then}
 use Rattle.refusal.proofs.Ladder.{all-pass}
-use Rattle.roll.specs.Roll.{countOf}
+use Rattle.roll.specs.declared.Entry.{Entry}
+use Rattle.roll.specs.Roll.{entryOf}
 use Rattle.grant.specs.Grants.{contractorIn}
 use Rattle.judging.specs.Judging.{inputTries, plainTries}
-use Rattle.checking.specs.Checking.{openedGrant, countNow, checkTries, checkContractor, checkRight}
+use Rattle.checking.specs.Checking.{openedGrant, entryNow, checkTries, checkContractor, checkRight}
 use Rattle.judging.proofs.Verdicts.{verdict-refused, verdict-passed}
 use borrow.Author.Needs.{needs}
 use Rattle.checking.proofs.check.Statement.{statement}
@@ -30,11 +31,11 @@ input s = let a = s .args in inputTries (length (now (a .key))) (a .rounds) (eqb
 abbrev plain : tie.Start → List ℕ
 plain s = let a = s .args in openedGrant (now (a .key)) (a .rounds) (now (a .grant))
 
-abbrev count : tie.Start → ℕ
-count s = let a = s .args in countNow (now (a .key)) (a .rounds) (a .roll) (now (a .grant))
+abbrev entry : tie.Start → Entry
+entry s = let a = s .args in entryNow (now (a .key)) (a .rounds) (a .roll) (now (a .grant))
 
 abbrev rest : tie.Start → List Try
-rest s = plainTries (plain s) (count s) (s .args .size-block) (s .args .right)
+rest s = plainTries (plain s) (entry s) (s .args .size-block) (s .args .right)
 
 abbrev tries : tie.Start → List Try
 tries s = let a = s .args in checkTries (now (a .key)) (a .rounds) (a .roll) (now (a .grant)) (a .size-block) (a .right)
@@ -62,15 +63,15 @@ returns-2 c =
     let told = o .before in
     let s = start (told .before .before) in
     let a = s .args in
-    let ts : List ℕ → ℕ → List Try = λ p n. plainTries p n (a .size-block) (a .right) in
+    let ts : List ℕ → Entry → List Try = λ p n. plainTries p n (a .size-block) (a .right) in
     let e = o .open .ensures in
-    let ec = n .count-of .ensures ∙ ap (countOf (a .roll)) (n .before .contractor-in .ensures ∙ ap contractorIn e) in
+    let ec = n .entry-of .ensures ∙ ap (entryOf (a .roll)) (n .before .contractor-in .ensures ∙ ap contractorIn e) in
     let j = c .judge .ensures in
     verdict-passed (tries s) (contractorIn (plain s)) (a .right) (rest s) _ _ _ (first-then (input s) (rest s) (passed told)) (
-      j .0 ∙ ap₂ (λ (p : List ℕ) (n : ℕ). first (ts p n)) e ec,
+      j .0 ∙ ap₂ (λ (p : List ℕ) (n : Entry). first (ts p n)) e ec,
       (
-        j .1 .0 ∙ ap₂ (λ (p : List ℕ) (n : ℕ). answered (first (ts p n)) (contractorIn p) 0) e ec,
-        j .1 .1 ∙ ap₂ (λ (p : List ℕ) (n : ℕ). answered (first (ts p n)) (a .right) 0) e ec,
+        j .1 .0 ∙ ap₂ (λ (p : List ℕ) (n : Entry). answered (first (ts p n)) (contractorIn p) 0) e ec,
+        j .1 .1 ∙ ap₂ (λ (p : List ℕ) (n : Entry). answered (first (ts p n)) (a .right) 0) e ec,
       ),
     )
 

@@ -11,7 +11,8 @@ use Rattle.refusal.proofs.Ladder.{then, all-passed, returns-refused, returns-do
 use Rattle.settings.specs.Settings.{settingsTries}
 use Rattle.key_lists.specs.declared.Direction.the-variants.{Enciphering}
 use Rattle.cipher.specs.Cipher.{cipherBlock}
-use Rattle.roll.specs.Roll.{countOf}
+use Rattle.roll.specs.declared.Entry.{Entry}
+use Rattle.roll.specs.Roll.{entryOf}
 use Rattle.roll_bytes.specs.RollBytes.{rollOf, rollTries}
 use Rattle.grant.specs.Grants.{plainGrant}
 use Rattle.issuing.specs.Issuing.{wantedTries, issuedGrant}
@@ -34,12 +35,12 @@ tried c =
     let a = start c .args in
     let settings = settingsTries (length (now (a .key))) (a .rounds) in
     let long = rollTries (length (now (a .roll))) in
-    let wanted = wantedTries (length (now (a .out))) (a .contractor) (a .right) (countOf (rollOf (now (a .roll))) (a .contractor)) in
+    let wanted : Entry → List Try = wantedTries (length (now (a .out))) (a .contractor) (a .right) in
     let r = c .before .before .before in
-    then _ _ (settings ++ long) wanted refl (then _ _ settings long refl (r .before .try-settings .ensures) (r .try-roll .ensures))
+    then _ _ (settings ++ long) (wanted (entryOf (rollOf (now (a .roll))) (a .contractor))) refl
+    (then _ _ settings long refl (r .before .try-settings .ensures) (r .try-roll .ensures))
     (c .before .try-issue .ensures
-    ∙ ap (λ (n : ℕ). after (outcomeNumber (r .try-roll .result)) (wantedTries (length (now (a .out))) (a .contractor) (a .right) n))
-    (c .before .before .count-in .ensures))
+    ∙ ap (λ (e : Entry). after (outcomeNumber (r .try-roll .result)) (wanted e)) (c .before .before .entry-in .ensures))
 
 returns : tie.Need-returns
 unfolding issueCallOutput
@@ -68,7 +69,7 @@ returns-2 c =
       w .write-grant .ensures
           ∙ ap (λ (m : ℕ). cipherBlock Enciphering (now (a .key)) (a .rounds) (plainGrant (a .contractor) m (a .size-block) (a .right)) ++ drop 12
           (now (a .out)))
-          (k .before .before .count-in .ensures) ∙ r .1,
+          (ap (λ (e : Entry). e .count) (k .before .before .entry-in .ensures)) ∙ r .1,
     )
 
 pub issue-spec : {M : Type 1} → statement M

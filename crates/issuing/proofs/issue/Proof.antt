@@ -11,7 +11,8 @@ use Rattle.refusal.proofs.Ladder.{then, all-passed, returns-refused, returns-do
 use Rattle.settings.specs.Settings.{settingsTries}
 use Rattle.key_lists.specs.declared.Direction.the-variants.{Enciphering}
 use Rattle.cipher.specs.Cipher.{cipherBlock}
-use Rattle.roll.specs.Roll.{countOf}
+use Rattle.roll.specs.declared.Entry.{Entry}
+use Rattle.roll.specs.Roll.{entryOf}
 use Rattle.grant.specs.Grants.{plainGrant}
 use Rattle.issuing.specs.Issuing.{wantedTries, issueTries, issuedGrant, issueOutput}
 use borrow.Author.Needs.{needs}
@@ -30,11 +31,11 @@ grant s = let a = s .args in issuedGrant (now (a .key)) (a .rounds) (a .roll) (a
 tried : (c : tie.After-is-refused) → outcomeNumber (c .before .try-issue .result) ≡ first (tries (start c))
 tried c =
     let a = start c .args in
-    let wanted = wantedTries (length (now (a .out))) (a .contractor) (a .right) (countOf (a .roll) (a .contractor)) in
-    then _ _ (settingsTries (length (now (a .key))) (a .rounds)) wanted refl (c .before .before .try-settings .ensures)
+    let wanted : Entry → List Try = wantedTries (length (now (a .out))) (a .contractor) (a .right) in
+    then _ _ (settingsTries (length (now (a .key))) (a .rounds)) (wanted (entryOf (a .roll) (a .contractor))) refl
+    (c .before .before .try-settings .ensures)
     (c .before .try-issue .ensures
-    ∙ ap (λ (n : ℕ). after (outcomeNumber (c .before .before .try-settings .result)) (wantedTries (length (now (a .out))) (a .contractor) (a .right) n))
-    (c .before .before .before .count-of .ensures))
+    ∙ ap (λ (e : Entry). after (outcomeNumber (c .before .before .try-settings .result)) (wanted e)) (c .before .before .before .entry-of .ensures))
 
 returns : tie.Need-returns
 unfolding issueOutput
@@ -58,7 +59,7 @@ returns-2 c =
     let s = start k in
     let a = s .args in
     let r = returns-done _ (tries s) (tried k) _ (k .is-refused .ensures) (grant s) (now (a .out)) (d .if1 .left) in
-    let n = k .before .before .before .count-of .ensures in (
+    let n = ap (λ (e : Entry). e .count) (k .before .before .before .entry-of .ensures) in (
       r .0,
       w .write-grant .ensures
           ∙ ap (λ (m : ℕ). cipherBlock Enciphering (now (a .key)) (a .rounds) (plainGrant (a .contractor) m (a .size-block) (a .right)) ++ drop 12

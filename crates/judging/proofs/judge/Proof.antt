@@ -8,7 +8,7 @@ use Rattle.refusal.proofs.Reasons.{reason-positive}
 use Rattle.refusal.proofs.Ladder.{one-try, climbs-first, then, all-pass}
 use Rattle.grant.specs.Grants.{isGrant, contractorIn, rightIn}
 use Rattle.judging.specs.Judging.{askedTries, standingTries, plainTries}
-use Rattle.grant.proofs.Rights.{covered-right}
+use Rattle.rights.proofs.Rights.{covered-right}
 use Rattle.judging.proofs.Verdicts.{verdict-refused, verdict-opens}
 use borrow.Author.Needs.{needs}
 use Rattle.judging.proofs.judge.Statement.{statement}
@@ -18,7 +18,7 @@ abbrev start : tie.After-try-standing → tie.Start
 start c = c .before .before .before .before
 
 abbrev tries : tie.Start → List Try
-tries s = plainTries (now (s .args .p)) (s .args .count) (s .args .size-block) (s .args .right)
+tries s = plainTries (now (s .args .p)) (s .args .entry) (s .args .size-block) (s .args .right)
 
 tried : (c : tie.After-try-standing) → outcomeNumber (c .try-standing .result) ≡ first (tries (start c))
 tried c =
@@ -27,7 +27,7 @@ tried c =
     let asked = askedTries (now (a .p)) (a .size-block) (a .right) in
     let k = c .before .before in
     let eight = one-try _ _ _ _ _ _ (k .unless .ensures) refl (k .before .is-grant .ensures) ∙ climbs-first whole refl in
-    then _ _ (whole ++ asked) (standingTries (now (a .p)) (a .count)) refl (then _ _ whole asked refl eight (c .before .try-asked .ensures))
+    then _ _ (whole ++ asked) (standingTries (now (a .p)) (a .entry) (a .right)) refl (then _ _ whole asked refl eight (c .before .try-asked .ensures))
     (c .try-standing .ensures)
 
 none : (c : tie.After-enum-told) → first (tries (start (c .before .before))) ≡ 0

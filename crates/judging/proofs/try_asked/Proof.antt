@@ -5,7 +5,7 @@ use lib.Dec.{eqb}
 use denote.Ref.{now}
 use Rattle.refusal.specs.Reasons.{outcomeNumber}
 use Rattle.refusal.proofs.Ladder.{one-try, climbs}
-use Rattle.grant.specs.Grants.{covers}
+use Rattle.rights.specs.Rights.{covers}
 use Rattle.judging.specs.Judging.{askedTries}
 use borrow.Author.Needs.{needs}
 use Rattle.judging.proofs.try_asked.Statement.{statement}

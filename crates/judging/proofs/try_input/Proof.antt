@@ -4,7 +4,7 @@ use mathlib.Core.List.{[], _∷_}
 use Rattle.refusal.specs.Tries.{_unless_, first}
 use Rattle.refusal.proofs.Ladder.{one-try, climbs, onward}
 use Rattle.settings.specs.Settings.{settingsTries}
-use Rattle.grant.specs.Grants.{isRight}
+use Rattle.rights.specs.Rights.{isRight}
 use borrow.Author.Needs.{needs}
 use Rattle.judging.proofs.try_input.Statement.{statement}
 use Rattle.judging.proofs.try_input.Tie as tie

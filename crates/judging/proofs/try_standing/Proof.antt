@@ -12,13 +12,16 @@ use Rattle.judging.proofs.try_standing.Tie as tie
 
 returns : tie.Need-returns
 returns c =
-    let a = c .before .before .before .before .args in
-    let u = c .before .before in
+    let k = c .before .before in
+    let n = k .before .before in
+    let u = n .before in
+    let a = u .before .before .args in
     let stands = one-try _ _ _ _ _ _ (u .unless .ensures) refl (u .before .is-in-standing .ensures) in
-    one-try _ _ _ _ _ _ (c .unless2 .ensures) stands (ap (λ (n : ℕ). eqb n (a .count)) (c .before .count-in .ensures))
-    ∙ climbs (outcomeNumber (a .prior)) (standingTries (now (a .p)) (a .count)) refl
+    let current = one-try _ _ _ _ _ _ (k .unless2 .ensures) stands (ap (λ (m : ℕ). eqb m (a .entry .count)) (n .count-in .ensures)) in
+    one-try _ _ _ _ _ _ (c .unless3 .ensures) current (c .before .within-highest .ensures)
+    ∙ climbs (outcomeNumber (a .prior)) (standingTries (now (a .p)) (a .entry) (a .right)) refl
 
 pub try-standing-spec : {M : Type 1} → statement M
 try-standing-spec =
     tie.close (tie.spec (λ c κs. search needs) (λ c κs. search needs) (λ c κs. search needs) (λ c κs. search needs)
-    returns)
+    (λ c κs. search needs) (λ c κs. search needs) returns)

@@ -3,7 +3,8 @@ use mathlib.Core.Path.{ap, ap₂, _∙_}
 use mathlib.Core.List.{List}
 use Prim.Native.Nat.{ℕ}
 use denote.Ref.{now}
-use Rattle.roll.specs.Roll.{countOf}
+use Rattle.roll.specs.declared.Entry.{Entry}
+use Rattle.roll.specs.Roll.{entryOf}
 use Rattle.roll_bytes.specs.RollBytes.{rollOf}
 use Rattle.grant.specs.Grants.{contractorIn}
 use Rattle.judging.specs.Judging.{judgedNumber}
@@ -19,8 +20,8 @@ returns c =
     let o = n .before .before .before in
     let a = o .before .before .before .before .args in
     let e = o .open-prepared .ensures in
-    let ec = n .count-in .ensures ∙ ap (countOf (rollOf (now (a .roll)))) (n .before .contractor-in .ensures ∙ ap contractorIn e) in
-    c .verdict-byte .ensures ∙ c .before .judge .ensures .0 ∙ ap₂ (λ (p : List ℕ) (k : ℕ). judgedNumber p k (a .size-block) (a .right)) e ec
+    let ec = n .entry-in .ensures ∙ ap (entryOf (rollOf (now (a .roll)))) (n .before .contractor-in .ensures ∙ ap contractorIn e) in
+    c .verdict-byte .ensures ∙ c .before .judge .ensures .0 ∙ ap₂ (λ (p : List ℕ) (k : Entry). judgedNumber p k (a .size-block) (a .right)) e ec
 
 pub answer-spec : {M : Type 1} → statement M
 answer-spec =

@@ -5,7 +5,7 @@ use lib.Dec.{leb}
 use Rattle.refusal.specs.Tries.{_unless_, first}
 use Rattle.refusal.proofs.Ladder.{one-try, climbs, onward}
 use Rattle.settings.specs.Settings.{settingsTries}
-use Rattle.grant.specs.Grants.{isRight}
+use Rattle.rights.specs.Rights.{isRight}
 use Rattle.queue_parts.specs.QueueParts.{grantsIn}
 use borrow.Author.Needs.{needs}
 use Rattle.queue_parts.proofs.try_queue.Statement.{statement}

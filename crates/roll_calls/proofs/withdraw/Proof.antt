@@ -1,36 +1,64 @@
 -- `roll_calls::withdraw` meets its contract.
-use mathlib.Core.Path.{refl}
+use mathlib.Core.Path.{refl, ap}
 use denote.Ref.{now}
-use Rattle.roll_changes.specs.Changes.{withdrawTries, withdrawnRoll}
+use Rattle.refusal.specs.Reasons.{outcomeNumber}
+use Rattle.roll.specs.declared.Entry.{Entry}
+use Rattle.roll_changes.specs.Changes.{withdrawTries, withdrawnEntry, withdrawnRoll}
 use Rattle.roll_changes.proofs.Changes.{may-withdraw}
 use Rattle.roll_calls.specs.RollCalls.{withdrawCallRoll}
-use Rattle.roll_calls.proofs.Changes.{countable, changed}
+use Rattle.roll_calls.proofs.Changes.{Ran, long, allowed, refused, done}
 use borrow.Author.Needs.{needs}
 use Rattle.roll_calls.proofs.withdraw.Statement.{statement}
 use Rattle.roll_calls.proofs.withdraw.Tie as tie
 
-change-requires : tie.Need-change-requires
-change-requires c κs =
-    let k = c .before in
-    let n = k .before in
-    let r = n .before .before in
-    let a = r .before .before .args in
-    countable (withdrawTries (a .contractor)) (a .contractor) (now (a .roll)) _ _ _ (r .try-roll .ensures) (n .count-in .ensures) (k .try-withdraw .ensures)
-    refl (may-withdraw (a .contractor))
+abbrev start : tie.After-is-refused → tie.Start
+start k = let e = k .before .before in e .before .before .before .before
+
+abbrev ran : (k : tie.After-is-refused) → let a = start k .args in Ran (withdrawTries (a .contractor)) (a .contractor) (now (a .roll))
+ran k =
+    let t = k .before in
+    let e = t .before in
+    let l = e .before .before in
+    record {
+      long-number = outcomeNumber (l .try-roll .result);
+      count = e .entry-in .result .count;
+      number = outcomeNumber (t .try-withdraw .result);
+      test = k .is-refused .result;
+      is-long = l .try-roll .ensures;
+      is-count = ap (λ (x : Entry). x .count) (e .entry-in .ensures);
+      is-number = t .try-withdraw .ensures;
+      is-test = k .is-refused .ensures;
+    }
 
 returns : tie.Need-returns
 unfolding withdrawCallRoll withdrawnRoll
 returns c =
+    let k = c .before .before in
+    let a = start k .args in
+    refused (ran k) withdrawnEntry (c .before .if1 .taken) _ (c .outcome-number .ensures)
+
+withdrawn-entry-requires : tie.Need-withdrawn-entry-requires
+withdrawn-entry-requires c κs =
+    let k = c .before .before in
+    let a = start k .args in
+    may-withdraw (a .contractor) _ (allowed (ran k) refl (c .before .if1 .left))
+
+write-entry-requires : tie.Need-write-entry-requires
+write-entry-requires c κs =
+    let d = c .before .before in
+    let w = ran (d .before) in
+    record { long = long w refl (d .if1 .left); contractor = allowed w refl (d .if1 .left) .0 }
+
+returns-2 : tie.Need-returns-2
+unfolding withdrawCallRoll withdrawnRoll
+returns-2 c =
     let g = c .before .before in
-    let k = g .before .before in
-    let n = k .before in
-    let r = n .before .before in
-    let a = r .before .before .args in
-    let e = g .change .ensures in
-    changed (withdrawTries (a .contractor)) (a .contractor) (now (a .roll)) _ _ _ (r .try-roll .ensures) (n .count-in .ensures) (k .try-withdraw .ensures)
-    refl _ _ (e .0) (e .1)
+    let n = g .before in
+    let d = n .before .before in
+    let a = start (d .before) .args in
+    done (ran (d .before)) withdrawnEntry refl (d .if1 .left) _ (n .withdrawn-entry .ensures) _ (g .write-entry .ensures) (g .write-entry .kept .0)
 
 pub withdraw-spec : {M : Type 1} → statement M
 withdraw-spec =
-    tie.close (tie.spec (λ c κs. search needs) (λ c κs. search needs) (λ c κs. search needs) change-requires
-    (λ c. search needs) returns)
+    tie.close (tie.spec (λ c κs. search needs) (λ c κs. search needs) (λ c κs. search needs) (λ c κs. search needs) (λ c κs. search needs)
+    (λ c. search needs) returns withdrawn-entry-requires write-entry-requires (λ c. search needs) returns-2)

@@ -10,14 +10,17 @@ use Rattle.roll_changes.proofs.try_enter.Tie as tie
 
 returns : tie.Need-returns
 returns c =
-    let k = c .before in
-    let u = k .before .before in
+    let o = c .before in
+    let g = o .before .before in
+    let u = g .before .before in
     let a = u .before .before .args in
     let known = one-try _ _ _ _ _ _ (u .unless .ensures) refl (u .before .is-contractor .ensures) in
-    one-try _ _ _ _ _ _ (c .unless3 .ensures) (one-try _ _ _ _ _ _ (k .unless2 .ensures) known (ap not (k .before .is-in-standing .ensures))) refl
-    ∙ climbs (outcomeNumber (a .prior)) (enterTries (a .contractor) (a .count)) refl
+    let given = one-try _ _ _ _ _ _ (g .unless2 .ensures) known (g .before .is-right .ensures) in
+    let outside = one-try _ _ _ _ _ _ (o .unless3 .ensures) given (ap not (o .before .is-in-standing .ensures)) in
+    one-try _ _ _ _ _ _ (c .unless4 .ensures) outside refl
+    ∙ climbs (outcomeNumber (a .prior)) (enterTries (a .contractor) (a .right) (a .count)) refl
 
 pub try-enter-spec : {M : Type 1} → statement M
 try-enter-spec =
     tie.close (tie.spec (λ c κs. search needs) (λ c κs. search needs) (λ c κs. search needs) (λ c κs. search needs)
-    (λ c κs. search needs) returns)
+    (λ c κs. search needs) (λ c κs. search needs) (λ c κs. search needs) returns)

@@ -7,14 +7,16 @@ use crate::options::{
 };
 use crate::printing::Done::{self, Changed, Told};
 use crate::{help, hex, pages, rolls};
-use gordzila::{raw, KeyHolder, PageKeys, Reason, Roll, Walked, BLOCK_BYTES, CONTRACTORS};
+use gordzila::{
+    raw, KeyHolder, PageKeys, Reason, Right, Roll, Walked, BLOCK_BYTES, CONTRACTORS, ROLL_BYTES,
+};
 use std::ffi::{OsStr, OsString};
 
 /// A call that writes 12 bytes under a key, for a block of 12 bytes.
 type CipherCall = fn(&[u8], u32, &[u8], &mut [u8]) -> Result<(), Reason>;
 
-/// A call that changes a roll.
-type RollCall = fn(&mut Roll, u32) -> Result<(), Reason>;
+/// A call that gives a contractor on a roll a highest right.
+type RightCall = fn(&mut [u8], u32, u32) -> Result<(), Reason>;
 
 /// Runs the subcommand that a word names, on the words after it.
 pub fn run(name: &OsStr, words: &[OsString]) -> Result<Done, Failure> {
@@ -32,8 +34,9 @@ pub fn run(name: &OsStr, words: &[OsString]) -> Result<Done, Failure> {
         "decipher" => cipher(words, raw::decipher).map(Told),
         "stage" => stage(words).map(Told),
         "walk" => walk(words).map(Told),
-        "enter" => change(words, "entered", Roll::enter).map(Changed),
-        "withdraw" => change(words, "withdrawn", Roll::withdraw).map(Changed),
+        "enter" => give_right(words, "entered", raw::enter).map(Changed),
+        "right" => give_right(words, "changed", raw::change_right).map(Changed),
+        "withdraw" => withdraw(words).map(Changed),
         _ => roll(words),
     }
 }
@@ -165,22 +168,34 @@ fn walk(words: &[OsString]) -> Answer {
     Ok(format!("steps: {steps} {way}\n{lines}"))
 }
 
-fn change(words: &[OsString], done: &str, call: RollCall) -> Answer {
+fn give_right(words: &[OsString], done: &str, call: RightCall) -> Answer {
+    let options = Options::parse(words, &[ROLL, CONTRACTOR, RIGHT])?;
+    let (contractor, right) = (options.number(CONTRACTOR)?, options.right()?);
+    let roll = rolls::change(options.roll_path()?, |roll| call(roll, contractor, right))?;
+    Ok(format!("{done}: {}", line_on(&roll, contractor)))
+}
+
+/// What the highest right is after a withdrawal is not printed: it lets nobody in.
+fn withdraw(words: &[OsString]) -> Answer {
     let options = Options::parse(words, &[ROLL, CONTRACTOR])?;
     let contractor = options.number(CONTRACTOR)?;
-    let roll = rolls::change(options.roll_path()?, |roll| call(roll, contractor))?;
-    Ok(format!("{done}: {}", line_on(&roll, contractor)))
+    let roll = rolls::change(options.roll_path()?, |roll| raw::withdraw(roll, contractor))?;
+    let count = roll.count(contractor).unwrap_or_default();
+    Ok(format!(
+        "withdrawn: contractor {contractor}, count {count}\n"
+    ))
 }
 
 fn roll(words: &[OsString]) -> Result<Done, Failure> {
     let (verb, rest) = words
         .split_first()
-        .ok_or_else(|| Failure::usage("roll needs `make` or `list`"))?;
+        .ok_or_else(|| Failure::usage("roll needs `make`, `list` or `convert`"))?;
     match verb.to_str() {
         Some("make") => make(rest).map(Changed),
         Some("list") => list(rest).map(Told),
+        Some("convert") => convert(rest).map(Changed),
         _ => Err(Failure::usage(format!(
-            "roll needs `make` or `list`, not `{}`",
+            "roll needs `make`, `list` or `convert`, not `{}`",
             verb.to_string_lossy()
         ))),
     }
@@ -194,14 +209,30 @@ fn make(words: &[OsString]) -> Answer {
 
 fn list(words: &[OsString]) -> Answer {
     let roll = Options::parse(words, &[ROLL])?.roll()?;
-    let lines: String = (1..=CONTRACTORS)
-        .filter(|&contractor| roll.in_standing(contractor))
+    let lines: String = in_standing(&roll)
         .map(|contractor| line_on(&roll, contractor))
         .collect();
     if lines.is_empty() {
         return Ok("nobody is in standing\n".to_string());
     }
     Ok(lines)
+}
+
+/// No call of the library takes an old roll, so that a number that is no right is refused
+/// here, as the calls refuse it.
+fn convert(words: &[OsString]) -> Answer {
+    let options = Options::parse(words, &[ROLL, RIGHT])?;
+    let right = Right::from_number(options.right()?).ok_or(Reason::Right)?;
+    let roll = rolls::convert(options.roll_path()?, right)?;
+    let number = in_standing(&roll).count();
+    Ok(format!(
+        "converted: {ROLL_BYTES} bytes, contractors in standing: {number}, highest right: {right}\n"
+    ))
+}
+
+/// The contractors who are in standing.
+fn in_standing(roll: &Roll) -> impl Iterator<Item = u32> + '_ {
+    (1..=CONTRACTORS).filter(|&contractor| roll.in_standing(contractor))
 }
 
 fn line_of(bytes: &[u8]) -> String {
@@ -228,9 +259,11 @@ fn line_on_page(block: u32, number: u16, payload: &[u8]) -> String {
     format!("size block {block}, page {number}, {used} bytes\n")
 }
 
+/// What a roll has on a contractor, who has to be one.
 fn line_on(roll: &Roll, contractor: u32) -> String {
     let count = roll.count(contractor).unwrap_or_default();
-    format!("contractor {contractor}, count {count}\n")
+    let right = roll.highest_right(contractor).unwrap_or(Right::Reading);
+    format!("contractor {contractor}, count {count}, {right}\n")
 }
 
 #[cfg(test)]

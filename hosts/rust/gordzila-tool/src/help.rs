@@ -5,9 +5,9 @@ use crate::failure::{Answer, Failure};
 use std::ffi::OsString;
 
 /// The subcommands.
-pub const NAMES: [&str; 12] = [
+pub const NAMES: [&str; 13] = [
     "issue", "check", "queue", "seal", "open", "encipher", "decipher", "stage", "walk", "enter",
-    "withdraw", "roll",
+    "right", "withdraw", "roll",
 ];
 
 /// The help that the words after `help` ask for.
@@ -32,6 +32,7 @@ pub fn of(name: &str) -> String {
         "stage" => STAGE,
         "walk" => WALK,
         "enter" => ENTER,
+        "right" => RIGHT,
         "withdraw" => WITHDRAW,
         _ => ROLL,
     };
@@ -52,9 +53,10 @@ usage: gordzila SUBCOMMAND OPTIONS
   decipher   decipher one block
   stage      show a stage of a key and its subkey
   walk       walk a key holder from one stage to another
-  enter      enter a contractor on a roll
+  enter      enter a contractor on a roll, with a highest right
+  right      change the highest right of a contractor on a roll
   withdraw   withdraw a contractor on a roll
-  roll       make an empty roll, or list who is in standing
+  roll       make an empty roll, list who is in standing, or convert an old roll
 
   gordzila help SUBCOMMAND   the options of a subcommand
   gordzila --version         the version of the tool
@@ -73,14 +75,15 @@ its verdict, not that one opens.
 
 const ISSUE: &str = "\
 Issues a grant and prints its 12 bytes. A grant for overwriting also opens its
-size block for reading.
+size block for reading. Overwriting is refused with 25 where the roll lets the
+contractor only read.
 
 usage: gordzila issue OPTIONS
 
   --key HEX         the maker's key, 12, 18 or 24 bytes
   --key-file FILE   the same, from a file of hexadecimal digits
   --rounds N        10 to 11, 14 to 17 or 18 to 23, by the key's length
-  --roll FILE       the roll, 400 bytes
+  --roll FILE       the roll, 600 bytes
   --contractor N    1 to 200, in standing
   --block N         the number of the size block
   --right R         reading or overwriting, or 1 or 2
@@ -89,14 +92,15 @@ usage: gordzila issue OPTIONS
 const CHECK: &str = "\
 Checks a grant; if it opens, prints its contractor and the right asked for. A
 grant for overwriting also opens its size block for reading; one for reading
-does not open it for overwriting.
+does not open it for overwriting. Where the roll lets the contractor only read,
+a grant for overwriting opens for reading, and overwriting is refused with 25.
 
 usage: gordzila check OPTIONS
 
   --key HEX         the maker's key, 12, 18 or 24 bytes
   --key-file FILE   the same, from a file of hexadecimal digits
   --rounds N        10 to 11, 14 to 17 or 18 to 23, by the key's length
-  --roll FILE       the roll, 400 bytes
+  --roll FILE       the roll, 600 bytes
   --grant HEX       the grant, 12 bytes
   --block N         the number of the size block asked for
   --right R         the right asked for: reading or overwriting, or 1 or 2
@@ -113,7 +117,7 @@ usage: gordzila queue OPTIONS
   --key HEX         the maker's key, 12, 18 or 24 bytes
   --key-file FILE   the same, from a file of hexadecimal digits
   --rounds N        10 to 11, 14 to 17 or 18 to 23, by the key's length
-  --roll FILE       the roll, 400 bytes
+  --roll FILE       the roll, 600 bytes
   --grants FILE     the grants, one a line in hexadecimal digits, as `issue`
                     prints them; - stands for standard input
   --block N         the number of the size block asked for
@@ -222,13 +226,40 @@ last.
 ";
 
 const ENTER: &str = "\
-Enters a contractor on the roll in a file.
+Enters a contractor on the roll in a file, with the highest right that they
+have from then on. Prints the contractor, the count and the right.
 
 usage: gordzila enter OPTIONS
 
-  --roll FILE       the roll, 400 bytes; it is replaced as a whole
+  --roll FILE       the roll, 600 bytes; it is replaced as a whole
   --contractor N    1 to 200, not in standing
+  --right R         the highest right: reading or overwriting, or 1 or 2
 
+With reading, the contractor gets no grant for overwriting. `gordzila right`
+changes it later.
+While it works there is a file FILE.lock, and no other change of the roll
+starts. A process that was killed may leave it; remove it if you are sure that
+no change is under way.
+A file with a second name (hard link) is not changed. With status 2 the roll is
+as it was, unless the message says that the change is made.
+";
+
+const RIGHT: &str = "\
+Changes the highest right of a contractor on the roll in a file: to reading,
+which demotes, or to overwriting, which raises. Prints the contractor, the count
+and the right. The right that they have already is taken too.
+
+usage: gordzila right OPTIONS
+
+  --roll FILE       the roll, 600 bytes; it is replaced as a whole
+  --contractor N    1 to 200, in standing
+  --right R         the highest right: reading or overwriting, or 1 or 2
+
+Who is demoted stays in standing. Their grants open for reading, those for
+overwriting too; overwriting is refused with 25.
+A demotion ends no grant: once the contractor is raised, grants for overwriting
+from before overwrite again. To end them, withdraw the contractor and enter
+them again.
 While it works there is a file FILE.lock, and no other change of the roll
 starts. A process that was killed may leave it; remove it if you are sure that
 no change is under way.
@@ -237,11 +268,12 @@ as it was, unless the message says that the change is made.
 ";
 
 const WITHDRAW: &str = "\
-Withdraws a contractor on the roll in a file.
+Withdraws a contractor on the roll in a file. No grant that was issued to them
+before opens on it any more.
 
 usage: gordzila withdraw OPTIONS
 
-  --roll FILE       the roll, 400 bytes; it is replaced as a whole
+  --roll FILE       the roll, 600 bytes; it is replaced as a whole
   --contractor N    1 to 200, in standing
 
 While it works there is a file FILE.lock, and no other change of the roll
@@ -252,16 +284,26 @@ as it was, unless the message says that the change is made.
 ";
 
 const ROLL: &str = "\
-Makes a roll on which nobody was ever entered, or lists those in standing.
+Makes a roll on which nobody was ever entered; lists those in standing, with
+their counts and highest rights; or converts a roll from before version 0.6.
 
 usage: gordzila roll make --roll FILE
        gordzila roll list --roll FILE
+       gordzila roll convert --roll FILE --right R
 
-  --roll FILE       the roll, 400 bytes
+  --roll FILE       the roll, 600 bytes; 400 bytes before it is converted
+  --right R         the highest right that all in standing get: reading or
+                    overwriting, or 1 or 2
 
 `make` does not replace a file: on a roll that starts anew, revoked grants may
 open again.
-While `make` works there is a file FILE.lock, and no other change of the roll
-starts. A process that was killed may leave it; remove it if you are sure that
-no change is under way.
+`convert` replaces a file of 400 bytes by one of 600, as a whole. The counts
+stay, and who is not in standing gets reading. With overwriting, each grant
+opens for what it opened for. With reading, none overwrites until `gordzila
+right` raises its contractor.
+While `make` or `convert` works there is a file FILE.lock, and no other change
+of the roll starts. A process that was killed may leave it; remove it if you are
+sure that no change is under way.
+A file with a second name (hard link) is not converted. With status 2 the roll
+is as it was, unless the message says that the change is made.
 ";

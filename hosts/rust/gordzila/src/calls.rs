@@ -1,5 +1,5 @@
 //! The calls with types that leave out what cannot be meant: blocks have 12 bytes,
-//! rolls 400, rights are two, and outputs are returned.
+//! rolls are rolls, rights are two, and outputs are returned.
 
 use crate::{raw, Opened, Reason, Right, Roll};
 
@@ -68,18 +68,20 @@ pub fn run(list: &[u8], block: &[u8; BLOCK_BYTES]) -> Result<[u8; BLOCK_BYTES], 
     written(|out| raw::run(list, block, out))
 }
 
-/// Issues a grant to a contractor in the standing that the roll has for them. A grant for
-/// overwriting also opens its size block for reading, so that nobody needs one of each.
-/// Refuses with [`Reason::KeyLength`], [`Reason::RoundCount`], [`Reason::Contractor`] or
-/// [`Reason::NotInStanding`].
+/// Issues a grant to a contractor in the standing that the roll has for them, for a right up
+/// to their highest. A grant for overwriting also opens its size block for reading, so that
+/// nobody needs one of each. Refuses with [`Reason::KeyLength`], [`Reason::RoundCount`],
+/// [`Reason::Contractor`], [`Reason::NotInStanding`] or [`Reason::AboveHighest`].
 ///
 /// ```
 /// use gordzila::{Opened, Reason, Right, Roll};
 ///
 /// let (key, rounds) = ([9; 12], 10);
 /// let mut roll = Roll::empty();
-/// roll.enter(7)?;
+/// roll.enter(7, Right::Reading)?;
 /// let grant = gordzila::issue(&key, rounds, &roll, 7, 300, Right::Reading)?;
+/// let refused = gordzila::issue(&key, rounds, &roll, 7, 300, Right::Overwriting);
+/// assert_eq!(refused, Err(Reason::AboveHighest));
 ///
 /// let opened = gordzila::check(&key, rounds, &roll, &grant, 300, Right::Reading)?;
 /// assert_eq!(opened, Opened { contractor: 7, right: Right::Reading });
@@ -104,17 +106,19 @@ pub fn issue(
 /// Checks a grant for one size block and one right. The grant may have any length: it
 /// comes from outside. Refuses with [`Reason::KeyLength`], [`Reason::RoundCount`],
 /// [`Reason::InputLength`], [`Reason::NotAGrant`], [`Reason::OtherBlock`],
-/// [`Reason::OtherRight`], [`Reason::NotInStanding`] or [`Reason::OtherCount`].
+/// [`Reason::OtherRight`], [`Reason::NotInStanding`], [`Reason::OtherCount`] or
+/// [`Reason::AboveHighest`].
 ///
 /// A grant for overwriting opens for reading too, and the answer has the right that was
-/// asked for. Overwriting asked of a reading grant is [`Reason::OtherRight`].
+/// asked for. Overwriting asked of a reading grant is [`Reason::OtherRight`]; asked of an
+/// overwriting grant whose contractor may only read, it is [`Reason::AboveHighest`].
 ///
 /// ```
 /// use gordzila::{check, issue, Opened, Reason, Right, Roll};
 ///
 /// let (key, rounds) = (&[9; 12], 10);
 /// let mut roll = Roll::empty();
-/// roll.enter(7)?;
+/// roll.enter(7, Right::Overwriting)?;
 ///
 /// let overwriting = issue(key, rounds, &roll, 7, 300, Right::Overwriting)?;
 /// let opened = check(key, rounds, &roll, &overwriting, 300, Right::Reading)?;
@@ -151,7 +155,7 @@ pub fn check(
 ///
 /// let (key, rounds, block) = (&[9; 12], 10, 300);
 /// let mut roll = Roll::empty();
-/// roll.enter(7)?;
+/// roll.enter(7, Right::Overwriting)?;
 /// let overwriting = issue(key, rounds, &roll, 7, block, Right::Overwriting)?;
 /// let reading = issue(key, rounds, &roll, 7, block, Right::Reading)?;
 ///

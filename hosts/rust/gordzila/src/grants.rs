@@ -2,9 +2,9 @@
 
 use std::fmt;
 
-/// What a grant lets its contractor do with a size block, and what a check asks for. A
-/// grant for overwriting also opens its size block for reading; one for reading does
-/// not open it for overwriting.
+/// What a grant lets its contractor do with a size block, what a check asks for, and what
+/// the roll lets a contractor do at most. A grant for overwriting also opens its size block
+/// for reading; one for reading does not open it for overwriting.
 #[derive(Clone, Copy, Debug, PartialEq, Eq)]
 pub enum Right {
     /// The right to read, 1.

@@ -12,7 +12,7 @@
 //!
 //! let (key, rounds, size_block) = (&[42; 24], 18, 300);
 //! let mut roll = Roll::empty();
-//! roll.enter(7)?;
+//! roll.enter(7, Right::Overwriting)?;
 //! let grant = issue(key, rounds, &roll, 7, size_block, Right::Overwriting)?;
 //!
 //! // The grant is for overwriting, and opens for looking at the size block first.
@@ -23,9 +23,17 @@
 //!     );
 //! }
 //!
+//! // The contractor is demoted: they may still look, but not overwrite.
+//! roll.change_right(7, Right::Reading)?;
+//! assert_eq!(
+//!     check(key, rounds, &roll, &grant, size_block, Right::Overwriting),
+//!     Err(Reason::AboveHighest)
+//! );
+//! assert!(check(key, rounds, &roll, &grant, size_block, Right::Reading).is_ok());
+//!
 //! // The contractor is dropped and later taken on again: the old grant stays shut.
 //! roll.withdraw(7)?;
-//! roll.enter(7)?;
+//! roll.enter(7, Right::Overwriting)?;
 //! assert_eq!(
 //!     check(key, rounds, &roll, &grant, size_block, Right::Overwriting),
 //!     Err(Reason::OtherCount)
@@ -71,5 +79,5 @@ pub use pages::{
     SCRATCH_BYTES,
 };
 pub use reason::Reason;
-pub use roll::{Roll, CONTRACTORS, ROLL_BYTES};
+pub use roll::{Roll, CONTRACTORS, OLD_ROLL_BYTES, ROLL_BYTES};
 pub use walks::{Walked, Way};

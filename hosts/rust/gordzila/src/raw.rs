@@ -25,11 +25,11 @@
 //! header does not have. That takes an archive that does not belong to this package.
 
 pub use crate::sys::{
-    check_number, check_queue_number, decipher_number, encipher_number, enter_number,
-    holder_back_number, holder_forward_number, holder_make_number, holder_subkey_number,
-    holder_walk_number, issue_number, open_page_number, prepare_deciphering_number,
-    prepare_enciphering_number, run_number, seal_page_number, stage_number, subkey_number,
-    withdraw_number,
+    change_right_number, check_number, check_queue_number, decipher_number, empty_roll_number,
+    encipher_number, enter_number, holder_back_number, holder_forward_number, holder_make_number,
+    holder_subkey_number, holder_walk_number, issue_number, open_page_number,
+    prepare_deciphering_number, prepare_enciphering_number, run_number, seal_page_number,
+    stage_number, subkey_number, withdraw_number,
 };
 use crate::{Opened, PageHeader, PageKeys, Reason, Right, Walked, Way, CONTRACTORS, PAYLOAD_BYTES};
 
@@ -47,7 +47,7 @@ const PAGE_OPENS: u64 = 1 << 63;
 
 /// Checks a grant for one size block and one right, which is the one in the answer. A
 /// grant for overwriting opens for reading too. Order: 1, 2, 3 (grant or roll), 7, 8, 9,
-/// 10, 20, 23.
+/// 10, 20, 23, 25.
 pub fn check(
     key: &[u8],
     rounds: u32,
@@ -70,7 +70,7 @@ pub fn check(
 /// ```
 /// use gordzila::{raw, Reason};
 ///
-/// let (key, roll, grants) = (&[9; 12], &[0; 400], &[0; 24]);
+/// let (key, roll, grants) = (&[9; 12], &[0; gordzila::ROLL_BYTES], &[0; 24]);
 /// let mut answers = [0xff; 3];
 /// let refused = raw::check_queue(key, 10, roll, grants, 300, 3, &mut answers);
 /// assert_eq!((refused, answers), (Err(Reason::Right), [0xff; 3]));
@@ -91,18 +91,31 @@ pub fn check_queue(
     ))
 }
 
-/// Enters a contractor on the roll's 400 bytes. Order: 3, 6, 21, 22.
-pub fn enter(roll: &mut [u8], contractor: u32) -> Result<(), Reason> {
-    done(enter_number(roll, contractor))
+/// The roll on which nobody was ever entered: as many bytes to `out` as a roll has. Order:
+/// 4.
+pub fn empty_roll(out: &mut [u8]) -> Result<(), Reason> {
+    done(empty_roll_number(out))
 }
 
-/// Withdraws a contractor on the roll's 400 bytes. Order: 3, 6, 20.
+/// Enters a contractor on a roll, with `right` as their highest right. Order: 3, 6, 7, 21,
+/// 22.
+pub fn enter(roll: &mut [u8], contractor: u32, right: u32) -> Result<(), Reason> {
+    done(enter_number(roll, contractor, right))
+}
+
+/// Changes the highest right of a contractor in standing on a roll to `right`. Order: 3, 6,
+/// 7, 20.
+pub fn change_right(roll: &mut [u8], contractor: u32, right: u32) -> Result<(), Reason> {
+    done(change_right_number(roll, contractor, right))
+}
+
+/// Withdraws a contractor on a roll; their highest right becomes 1. Order: 3, 6, 20.
 pub fn withdraw(roll: &mut [u8], contractor: u32) -> Result<(), Reason> {
     done(withdraw_number(roll, contractor))
 }
 
 /// Issues a grant: 12 bytes to `out`. One for overwriting opens for reading too. Order: 1,
-/// 2, 3 (roll), 4, 6, 7, 20.
+/// 2, 3 (roll), 4, 6, 7, 20, 25.
 pub fn issue(
     key: &[u8],
     rounds: u32,
@@ -346,7 +359,7 @@ mod tests {
 
     #[test]
     fn a_number_of_no_reason_is_not_taken_for_anything() {
-        for number in [14, 25, 1001] {
+        for number in [14, 26, 1001] {
             assert!(std::panic::catch_unwind(|| done(number)).is_err());
         }
     }
@@ -370,7 +383,7 @@ mod tests {
 
     #[test]
     fn an_answer_that_the_header_does_not_have_opens_nothing() {
-        for answer in [0, 14, 999, 1000, 1201, 2000, 2201, 3001, u32::MAX] {
+        for answer in [0, 14, 26, 999, 1000, 1201, 2000, 2201, 3001, u32::MAX] {
             assert!(std::panic::catch_unwind(|| opened(answer)).is_err());
         }
     }
@@ -396,7 +409,7 @@ mod tests {
 
     #[test]
     fn an_answer_that_the_header_does_not_have_is_no_walk() {
-        for answer in [0, 14, 25, 999, 1013, 2000, 2012, 3001, u32::MAX] {
+        for answer in [0, 14, 26, 999, 1013, 2000, 2012, 3001, u32::MAX] {
             assert!(std::panic::catch_unwind(|| walked(answer)).is_err());
         }
     }
@@ -430,7 +443,7 @@ mod tests {
         for answer in [
             0,
             14,
-            25,
+            26,
             1001,
             (1 << 32) + 13,
             (1 << 48) + 300,

@@ -25,7 +25,7 @@ pub enum Reason {
     KeyLength = 1,
     /// 2: round count not 10..11, 14..17 or 18..23, by the key's length.
     RoundCount = 2,
-    /// 3: block or grant not 12 bytes; roll not 400 bytes; queue of grants over 768
+    /// 3: block or grant not 12 bytes; roll not 600 bytes; queue of grants over 768
     /// bytes, or no multiple of 12.
     InputLength = 3,
     /// 4: out shorter than what is to be written; answers shorter than the number of
@@ -65,11 +65,18 @@ pub enum Reason {
     /// not below it, or bytes past it. Only the calls of [`raw`](crate::raw) and
     /// [`KeyHolder::from_bytes`](crate::KeyHolder::from_bytes) can give it.
     BrokenHolder = 24,
+    /// 25: right asked for above the contractor's highest: overwriting, of a contractor who
+    /// may only read.
+    AboveHighest = 25,
 }
+
+/// The words of [`Reason::BrokenHolder`].
+const BROKEN_HOLDER: &str = "holder not 26 bytes, or not whole: a wrong key length, \
+                             a stage number that is not below it, or bytes past it";
 
 impl Reason {
     /// Every reason, in the order of the numbers.
-    pub const ALL: [Reason; 18] = [
+    pub const ALL: [Reason; 19] = [
         Reason::KeyLength,
         Reason::RoundCount,
         Reason::InputLength,
@@ -88,6 +95,7 @@ impl Reason {
         Reason::CountSpent,
         Reason::OtherCount,
         Reason::BrokenHolder,
+        Reason::AboveHighest,
     ];
 
     /// The number of the reason.
@@ -117,7 +125,7 @@ impl Reason {
             }
             Reason::RoundCount => "round count not 10..11, 14..17 or 18..23, by the key's length",
             Reason::InputLength => {
-                "block or grant not 12 bytes; roll not 400 bytes; \
+                "block or grant not 12 bytes; roll not 600 bytes; \
                  queue of grants over 768 bytes, or no multiple of 12"
             }
             Reason::OutputTooShort => {
@@ -143,10 +151,8 @@ impl Reason {
             Reason::InStanding => "entering someone in standing",
             Reason::CountSpent => "entering at count 65,534 or 65,535",
             Reason::OtherCount => "the grant's count differs from the roll's",
-            Reason::BrokenHolder => {
-                "holder not 26 bytes, or not whole: a wrong key length, \
-                 a stage number that is not below it, or bytes past it"
-            }
+            Reason::BrokenHolder => BROKEN_HOLDER,
+            Reason::AboveHighest => "right asked for above the contractor's highest",
         }
     }
 }
@@ -172,15 +178,15 @@ mod tests {
     }
 
     #[test]
-    fn the_numbers_are_1_to_13_and_20_to_24() {
+    fn the_numbers_are_1_to_13_and_20_to_25() {
         let numbers: Vec<u32> = Reason::ALL.into_iter().map(Reason::number).collect();
-        let expected: Vec<u32> = (1..=13).chain(20..=24).collect();
+        let expected: Vec<u32> = (1..=13).chain(20..=25).collect();
         assert_eq!(numbers, expected);
     }
 
     #[test]
     fn no_other_number_is_a_reason() {
-        for number in [0, 14, 19, 25, 257, 1001, 2200, u32::MAX] {
+        for number in [0, 14, 19, 26, 257, 1001, 2200, u32::MAX] {
             assert_eq!(Reason::from_number(number), None, "{number}");
         }
     }

@@ -39,7 +39,10 @@ extern "C" {
         answers: *mut u8,
         answers_length: usize,
     ) -> u32;
-    fn gordzila_enter(roll: *mut u8, roll_length: usize, contractor: u32) -> u32;
+    fn gordzila_empty_roll(out: *mut u8, out_length: usize) -> u32;
+    fn gordzila_enter(roll: *mut u8, roll_length: usize, contractor: u32, right: u32) -> u32;
+    fn gordzila_change_right(roll: *mut u8, roll_length: usize, contractor: u32, right: u32)
+        -> u32;
     fn gordzila_withdraw(roll: *mut u8, roll_length: usize, contractor: u32) -> u32;
     fn gordzila_issue(
         key: *const u8,
@@ -208,10 +211,22 @@ pub fn check_queue_number(
     }
 }
 
-/// The number that `gordzila_enter` answers: 0, or that of a reason.
-pub fn enter_number(roll: &mut [u8], contractor: u32) -> u32 {
+/// The number that `gordzila_empty_roll` answers: 0, or that of a reason.
+pub fn empty_roll_number(out: &mut [u8]) -> u32 {
     // SAFETY: the pointer with the length of its slice, which is lent for writing.
-    unsafe { gordzila_enter(roll.as_mut_ptr(), roll.len(), contractor) }
+    unsafe { gordzila_empty_roll(out.as_mut_ptr(), out.len()) }
+}
+
+/// The number that `gordzila_enter` answers: 0, or that of a reason.
+pub fn enter_number(roll: &mut [u8], contractor: u32, right: u32) -> u32 {
+    // SAFETY: the pointer with the length of its slice, which is lent for writing.
+    unsafe { gordzila_enter(roll.as_mut_ptr(), roll.len(), contractor, right) }
+}
+
+/// The number that `gordzila_change_right` answers: 0, or that of a reason.
+pub fn change_right_number(roll: &mut [u8], contractor: u32, right: u32) -> u32 {
+    // SAFETY: the pointer with the length of its slice, which is lent for writing.
+    unsafe { gordzila_change_right(roll.as_mut_ptr(), roll.len(), contractor, right) }
 }
 
 /// The number that `gordzila_withdraw` answers: 0, or that of a reason.

@@ -2,7 +2,8 @@
 use mathlib.Core.Path.{ap, ap₂, _∙_}
 use mathlib.Core.Bool.{_&&_}
 use Rattle.roll.specs.Roll.{isContractor}
-use Rattle.grant.specs.Grants.{isRight, isGrant}
+use Rattle.rights.specs.Rights.{isRight}
+use Rattle.grant.specs.Grants.{isGrant}
 use borrow.Author.Needs.{needs}
 use Rattle.grant.proofs.plain.is_grant.Statement.{statement}
 use Rattle.grant.proofs.plain.is_grant.Tie as tie

@@ -5,7 +5,7 @@ use Prim.Native.Nat.{ℕ}
 use lib.ListN.{getD}
 use Rattle.numbers.specs.Numbers.{twoBytes}
 use Rattle.grant.specs.Grants.{plainGrant}
-use Rattle.grant.proofs.Rights.{right-small}
+use Rattle.rights.proofs.Rights.{right-small}
 use borrow.Author.Needs.{needs}
 use Rattle.grant.proofs.plain.plain_grant.Statement.{statement}
 use Rattle.grant.proofs.plain.plain_grant.Tie as tie

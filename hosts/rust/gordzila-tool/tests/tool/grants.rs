@@ -26,14 +26,14 @@ fn a_grant_lives_and_dies() {
     let roll = room.path("roll");
     let asked = options("--block 300 --right overwriting");
     on_roll("roll make", &roll, "").done();
-    on_roll("enter", &roll, "--contractor 7").done();
+    on_roll("enter", &roll, "--contractor 7 --right overwriting").done();
     let issued = on_roll("issue", &roll, &format!("{asked} --contractor 7")).done();
     let check = || on_roll("check", &roll, &format!("{asked} --grant {issued}"));
     assert_eq!(check().done(), "opens: contractor 7, overwriting\n");
 
     on_roll("withdraw", &roll, "--contractor 7").done();
     assert_eq!(check().refused(), 20);
-    on_roll("enter", &roll, "--contractor 7").done();
+    on_roll("enter", &roll, "--contractor 7 --right overwriting").done();
     assert_eq!(check().refused(), 23);
 
     let again = on_roll("issue", &roll, &format!("{asked} --contractor 7")).done();
@@ -57,7 +57,7 @@ fn an_overwriting_grant_also_opens_for_reading() {
     // Looking ends with the standing too.
     on_roll("withdraw", &roll, "--contractor 7").done();
     assert_eq!(check("reading").refused(), 20);
-    on_roll("enter", &roll, "--contractor 7").done();
+    on_roll("enter", &roll, "--contractor 7 --right overwriting").done();
     assert_eq!(check("reading").refused(), 23);
 }
 
@@ -92,9 +92,9 @@ fn a_right_is_a_word_or_a_number() {
 }
 
 #[test]
-fn issuing_refuses_with_1_2_6_7_20() {
+fn issuing_refuses_with_1_2_6_7_20_25() {
     let room = Room::new("issue-refusals");
-    let roll = room.roll(&[(7, 1), (8, 2), (9, 65_535)]);
+    let roll = room.roll_with(&[(7, 1, 1), (8, 2, 1), (9, 65_535, 2)]);
     let number = |key: &str, rounds: u32, contractor: u32, right: &str| {
         let rest = format!(
             "--key {key} --rounds {rounds} --contractor {contractor} --block 1 --right {right}"
@@ -110,10 +110,12 @@ fn issuing_refuses_with_1_2_6_7_20() {
     assert_eq!(number(KEY, 10, 7, "257"), 7);
     assert_eq!(number(KEY, 10, 8, "1"), 20);
     assert_eq!(number(KEY, 10, 9, "1"), 20);
+    assert_eq!(number(KEY, 10, 8, "2"), 20);
+    assert_eq!(number(KEY, 10, 7, "2"), 25);
 }
 
 #[test]
-fn checking_refuses_with_1_2_3_7_8_9_10_20_23() {
+fn checking_refuses_with_1_2_3_7_8_9_10_20_23_25() {
     let room = Room::new("check-refusals");
     let roll = room.roll(&[(7, 1)]);
     let (grant, reading) = (issued(&roll, "2"), issued(&roll, "1"));
@@ -131,10 +133,43 @@ fn checking_refuses_with_1_2_3_7_8_9_10_20_23() {
     assert_eq!(number(KEY, 11, &grant, 300, 2), 8);
     assert_eq!(number(KEY, 10, &grant, 301, 2), 9);
     assert_eq!(number(KEY, 10, &reading, 300, 2), 10);
-    room.roll(&[(7, 2)]);
+    room.roll_with(&[(7, 2, 1)]);
     assert_eq!(number(KEY, 10, &grant, 300, 2), 20);
-    room.roll(&[(7, 3)]);
+    room.roll_with(&[(7, 3, 1)]);
     assert_eq!(number(KEY, 10, &grant, 300, 2), 23);
+    for highest in [0, 1, 3, 255] {
+        room.roll_with(&[(7, 1, highest)]);
+        assert_eq!(number(KEY, 10, &reading, 300, 2), 10);
+        assert_eq!(number(KEY, 10, &grant, 300, 2), 25);
+    }
+}
+
+#[test]
+fn a_demoted_contractor_looks_and_does_not_overwrite() {
+    let room = Room::new("demoted");
+    let roll = room.roll(&[(7, 1)]);
+    let grant = issued(&roll, "overwriting");
+    let check = |right| checked(&roll, &grant, right);
+    on_roll("right", &roll, "--contractor 7 --right reading").done();
+    assert_eq!(check("reading").done(), "opens: contractor 7, reading\n");
+    let run = check("overwriting");
+    assert_eq!(
+        run.err,
+        "refused with 25: right asked for above the contractor's highest\n"
+    );
+    assert_eq!(run.refused(), 25);
+    // The grant from before overwrites again once its contractor is raised.
+    on_roll("right", &roll, "--contractor 7 --right overwriting").done();
+    assert_eq!(
+        check("overwriting").done(),
+        "opens: contractor 7, overwriting\n"
+    );
+    // What ends it is a withdrawal, whatever right its contractor is entered with.
+    on_roll("right", &roll, "--contractor 7 --right reading").done();
+    on_roll("withdraw", &roll, "--contractor 7").done();
+    on_roll("enter", &roll, "--contractor 7 --right overwriting").done();
+    assert_eq!(check("reading").refused(), 23);
+    assert_eq!(check("overwriting").refused(), 23);
 }
 
 #[test]

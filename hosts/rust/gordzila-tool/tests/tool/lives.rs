@@ -6,7 +6,7 @@ use std::fs;
 use std::path::{Path, PathBuf};
 
 /// How many lines a life has.
-const LINES: usize = 28;
+const LINES: usize = 45;
 
 /// Which lives are lived: some of each key length and of each right. All of them would
 /// start the tool some thousand times; the wrapper's tests have them all.
@@ -33,8 +33,11 @@ fn the_tool_answers_as_the_independent_program_does() {
         let life = Life::new(lines[0], room.path("roll"));
         let lived = life.lived();
         assert_eq!(lived, lines[1..], "{}", lines[0]);
-        // The check of grant A for the other right, by the rule and not by what is stored.
-        assert_eq!(lived[5], life.other_right(), "{}", lines[0]);
+        // These by the rules, and not by what is stored: the check of grant A for the other
+        // right, and after the second demotion those of grant C for either right.
+        assert_eq!(lived[6], life.other_right(), "{}", lines[0]);
+        let look = format!("check 1 0 {} 1", life.contractor);
+        assert_eq!(lived[17..19], ["check 2 25 0 0", &look], "{}", lines[0]);
     }
 }
 
@@ -54,27 +57,31 @@ impl<'a> Life<'a> {
 
     /// The lines after the first.
     fn lived(&self) -> Vec<String> {
-        let mut lines = vec![self.issue(), self.change("enter"), self.issue()];
-        let a = lines[2].replace("issue 0 ", "");
-        lines.push(self.check(&a));
-        lines.push(self.check_for(&a, self.block.wrapping_add(1), self.right));
-        lines.push(self.check_for(&a, self.block, 3 - self.right));
-        lines.extend([
-            self.change("enter"),
-            self.change("withdraw"),
-            self.check(&a),
-        ]);
-        lines.extend([
-            self.change("withdraw"),
-            self.change("enter"),
-            self.check(&a),
-        ]);
-        lines.push(self.issue());
-        let b = lines[12].replace("issue 0 ", "");
-        lines.extend([self.check(&b), self.check(&a)]);
+        let right = self.right;
+        let mut lines = vec![self.issue(right), self.change("right", 2)];
+        lines.extend([self.change("enter", right), self.issue(right)]);
+        let a = grant_in(&lines[3]);
+        lines.push(self.check(&a, right));
+        lines.push(self.check_for(&a, self.block.wrapping_add(1), right));
+        lines.extend([self.check(&a, 3 - right), self.issue(3 - right)]);
+        lines.push(self.change("right", 1));
+        lines.extend([self.check(&a, 2), self.check(&a, 1), self.issue(2)]);
+        lines.extend([self.change("right", 2), self.check(&a, right)]);
+        lines.push(self.issue(2));
+        let c = grant_in(&lines[14]);
+        lines.extend([self.check(&c, 2), self.change("right", 1)]);
+        lines.extend([self.check(&c, 2), self.check(&c, 1)]);
+        lines.extend([self.change("right", 3), self.change("enter", right)]);
+        lines.extend([self.withdraw(), self.check(&a, right), self.withdraw()]);
+        lines.extend([self.change("right", 1), self.change("enter", right)]);
+        lines.extend([self.check(&a, right), self.check(&c, 2), self.issue(right)]);
+        let b = grant_in(&lines[28]);
+        lines.extend([self.check(&b, right), self.check(&a, right)]);
+        lines.push(self.check(&b, 2));
         for at in 0..12 {
-            let line = self.check(&damaged(&b, at));
-            lines.push(line.replace("check", &format!("damaged {at}")));
+            let line = self.check(&damaged(&b, at), right);
+            let checked = format!("check {right}");
+            lines.push(line.replacen(&checked, &format!("damaged {at}"), 1));
         }
         lines
     }
@@ -83,40 +90,46 @@ impl<'a> Life<'a> {
     /// opens for reading, and a reading grant does not for overwriting.
     fn other_right(&self) -> String {
         match self.right {
-            2 => format!("check 0 {} 1", self.contractor),
-            _ => "check 10 0 0".to_string(),
+            2 => format!("check 1 0 {} 1", self.contractor),
+            _ => "check 2 10 0 0".to_string(),
         }
     }
 
-    fn change(&self, subcommand: &str) -> String {
-        let options = format!("--contractor {}", self.contractor);
+    fn change(&self, subcommand: &str, highest: u32) -> String {
+        let options = format!("--contractor {} --right {highest}", self.contractor);
         let run = on_roll(subcommand, &self.roll, &options);
-        format!("{subcommand} {}", number(run))
+        format!("{subcommand} {highest} {}", number(run))
     }
 
-    fn issue(&self) -> String {
+    fn withdraw(&self) -> String {
+        let options = format!("--contractor {}", self.contractor);
+        let run = on_roll("withdraw", &self.roll, &options);
+        format!("withdraw {}", number(run))
+    }
+
+    fn issue(&self, right: u32) -> String {
         let contractor = self.contractor;
         let options = format!(
             "{} --contractor {contractor}",
-            self.asked(self.block, self.right)
+            self.asked(self.block, right)
         );
         let run = on_roll("issue", &self.roll, &options);
         match run.status {
-            Some(0) => format!("issue 0 {}", run.done().trim_end()),
-            _ => format!("issue {}", run.refused()),
+            Some(0) => format!("issue {right} 0 {}", run.done().trim_end()),
+            _ => format!("issue {right} {}", run.refused()),
         }
     }
 
-    fn check(&self, grant: &str) -> String {
-        self.check_for(grant, self.block, self.right)
+    fn check(&self, grant: &str, right: u32) -> String {
+        self.check_for(grant, self.block, right)
     }
 
     fn check_for(&self, grant: &str, block: u32, right: u32) -> String {
         let options = format!("{} --grant {grant}", self.asked(block, right));
         let run = on_roll("check", &self.roll, &options);
         match run.status {
-            Some(0) => format!("check 0 {}", opened(&run.done())),
-            _ => format!("check {} 0 0", run.refused()),
+            Some(0) => format!("check {right} 0 {}", opened(&run.done())),
+            _ => format!("check {right} {} 0 0", run.refused()),
         }
     }
 
@@ -143,6 +156,11 @@ fn number(run: Run) -> u32 {
         Some(0) => 0,
         _ => run.refused(),
     }
+}
+
+/// The grant in a line `issue ASKED 0 GRANT`.
+fn grant_in(line: &str) -> String {
+    line.rsplit_once(" 0 ").unwrap().1.to_string()
 }
 
 /// A grant with one byte xored with 1.

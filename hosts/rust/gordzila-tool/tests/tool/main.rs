@@ -1,6 +1,7 @@
 //! Tests of the tool as others use it: by its words, files, outputs and exit status.
 
 mod cipher;
+mod converting;
 mod grants;
 mod lives;
 mod pages;

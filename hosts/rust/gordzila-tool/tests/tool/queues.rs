@@ -34,9 +34,10 @@ fn queued_from_input(roll: &Path, text: &str, right: &str) -> Run {
 }
 
 /// A grant of each verdict, as lines: contractor 7 is in standing, contractor 8 was
-/// withdrawn, and contractor 9 is in another standing than the grant was issued in.
+/// withdrawn, contractor 9 is in another standing than the grant was issued in, and
+/// contractor 10 was demoted.
 fn pile(room: &Room) -> String {
-    let roll = room.roll(&[(7, 1), (8, 1), (9, 1)]);
+    let roll = room.roll(&[(7, 1), (8, 1), (9, 1), (10, 1)]);
     let lines = [
         issued(&roll, 7, 300, "overwriting"),
         issued(&roll, 7, 300, "reading"),
@@ -44,9 +45,10 @@ fn pile(room: &Room) -> String {
         issued(&roll, 8, 300, "overwriting"),
         issued(&roll, 9, 300, "overwriting"),
         format!("{KEY}\n"),
+        issued(&roll, 10, 300, "overwriting"),
         issued(&roll, 7, 300, "overwriting"),
     ];
-    room.roll(&[(7, 1), (8, 2), (9, 3)]);
+    room.roll_with(&[(7, 1, 2), (8, 2, 1), (9, 3, 2), (10, 1, 1)]);
     lines.concat()
 }
 
@@ -57,7 +59,8 @@ const FOR_OVERWRITING: &str = "\
 4: refused with 20: contractor not in standing
 5: refused with 23: the grant's count differs from the roll's
 6: refused with 8: the deciphered bytes have a wrong mark, contractor or right
-7: opens
+7: refused with 25: right asked for above the contractor's highest
+8: opens
 ";
 
 const FOR_READING: &str = "\
@@ -68,6 +71,7 @@ const FOR_READING: &str = "\
 5: refused with 23: the grant's count differs from the roll's
 6: refused with 8: the deciphered bytes have a wrong mark, contractor or right
 7: opens
+8: opens
 ";
 
 #[test]
@@ -205,10 +209,10 @@ fn grants_that_cannot_be_read_are_named() {
 #[test]
 fn a_roll_of_another_size_cannot_be_used() {
     let room = Room::new("queue-roll");
-    for length in [0, 399, 401] {
+    for length in [0, 399, 401, 599, 601] {
         let roll = room.file("roll", &vec![0; length]);
         for text in ["", KEY] {
-            queued_from_input(&roll, text, "2").stopped("not 400 bytes long");
+            queued_from_input(&roll, text, "2").stopped("not 600 bytes long");
         }
     }
 }

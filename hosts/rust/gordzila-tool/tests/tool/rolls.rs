@@ -1,6 +1,6 @@
-//! `roll`, `enter` and `withdraw`.
+//! `roll`, `enter`, `right` and `withdraw`.
 
-use crate::running::{on_roll, Room};
+use crate::running::{empty_roll, on_roll, Room};
 use std::fs;
 
 #[test]
@@ -9,7 +9,7 @@ fn an_empty_roll_is_made() {
     let roll = room.path("roll");
     let printed = on_roll("roll make", &roll, "").done();
     assert_eq!(printed, "made: a roll on which nobody was ever entered\n");
-    assert_eq!(fs::read(&roll).unwrap(), [0; 400]);
+    assert_eq!(fs::read(&roll).unwrap(), empty_roll());
     let listed = on_roll("roll list", &roll, "").done();
     assert_eq!(listed, "nobody is in standing\n");
     assert_eq!(room.names(), ["roll"]);
@@ -39,72 +39,155 @@ fn a_roll_cannot_be_made_in_no_directory() {
 #[test]
 fn those_in_standing_are_listed() {
     let room = Room::new("list");
-    let counts = [
-        (1, 3),
-        (2, 2),
-        (7, 65_533),
-        (8, 65_534),
-        (9, 65_535),
-        (200, 1),
+    let entries = [
+        (1, 3, 2),
+        (2, 2, 2),
+        (3, 1, 0),
+        (4, 1, 1),
+        (5, 1, 3),
+        (6, 1, 255),
+        (7, 65_533, 2),
+        (8, 65_534, 2),
+        (9, 65_535, 2),
+        (200, 1, 2),
     ];
-    let roll = room.roll(&counts);
+    let roll = room.roll_with(&entries);
     let listed = on_roll("roll list", &roll, "").done();
-    let expected = "contractor 1, count 3\ncontractor 7, count 65533\ncontractor 200, count 1\n";
+    // Every figure but 2 means reading.
+    let expected = "\
+contractor 1, count 3, overwriting
+contractor 3, count 1, reading
+contractor 4, count 1, reading
+contractor 5, count 1, reading
+contractor 6, count 1, reading
+contractor 7, count 65533, overwriting
+contractor 200, count 1, overwriting
+";
     assert_eq!(listed, expected);
 }
 
+/// Changes of one contractor in their order, with the rights by word and by number, and what
+/// each prints; `N` stands for the contractor.
+const CHANGES: [(&str, &str); 7] = [
+    (
+        "enter --right 2",
+        "entered: contractor N, count 1, overwriting\n",
+    ),
+    (
+        "right --right reading",
+        "changed: contractor N, count 1, reading\n",
+    ),
+    (
+        "right --right 1",
+        "changed: contractor N, count 1, reading\n",
+    ),
+    (
+        "right --right 2",
+        "changed: contractor N, count 1, overwriting\n",
+    ),
+    ("withdraw", "withdrawn: contractor N, count 2\n"),
+    (
+        "enter --right reading",
+        "entered: contractor N, count 3, reading\n",
+    ),
+    (
+        "right --right overwriting",
+        "changed: contractor N, count 3, overwriting\n",
+    ),
+];
+
 #[test]
-fn contractors_are_entered_and_withdrawn() {
+fn contractors_are_entered_changed_and_withdrawn() {
     let room = Room::new("changes");
     let roll = room.roll(&[]);
-    for contractor in [1, 200] {
-        let rest = format!("--contractor {contractor}");
-        let entered = on_roll("enter", &roll, &rest).done();
-        assert_eq!(
-            entered,
-            format!("entered: contractor {contractor}, count 1\n")
-        );
-        let withdrawn = on_roll("withdraw", &roll, &rest).done();
-        let expected = format!("withdrawn: contractor {contractor}, count 2\n");
-        assert_eq!(withdrawn, expected);
+    for contractor in ["1", "200"] {
+        for (line, expected) in CHANGES {
+            let (subcommand, right) = line.split_once(' ').unwrap_or((line, ""));
+            let rest = format!("--contractor {contractor} {right}");
+            let printed = on_roll(subcommand, &roll, &rest).done();
+            assert_eq!(printed, expected.replace('N', contractor));
+        }
     }
-    let mut expected = [0; 400];
-    (expected[1], expected[399]) = (2, 2);
+    let mut expected = empty_roll();
+    (expected[1], expected[399]) = (3, 3);
+    (expected[400], expected[599]) = (2, 2);
     assert_eq!(fs::read(&roll).unwrap(), expected);
     assert_eq!(room.names(), ["roll"]);
 }
 
+/// Also the bytes of others that are no right.
 #[test]
-fn changes_refuse_with_6_20_21_22() {
+fn a_change_writes_one_entry() {
+    let room = Room::new("entries");
+    let entries = [(1, 1, 0), (2, 1, 3), (3, 2, 255), (4, 1, 2), (5, 1, 255)];
+    for (line, contractor, count, highest) in [
+        ("right --contractor 1 --right reading", 1, 1, 1),
+        ("right --contractor 2 --right overwriting", 2, 1, 2),
+        ("enter --contractor 3 --right overwriting", 3, 3, 2),
+        ("right --contractor 4 --right reading", 4, 1, 1),
+        ("withdraw --contractor 5", 5, 2, 1),
+    ] {
+        let roll = room.roll_with(&entries);
+        let mut expected = fs::read(&roll).unwrap();
+        (expected[2 * contractor - 1], expected[399 + contractor]) = (count, highest);
+        let (subcommand, rest) = line.split_once(' ').unwrap();
+        on_roll(subcommand, &roll, rest).done();
+        assert_eq!(fs::read(&roll).unwrap(), expected, "{line}");
+    }
+}
+
+#[test]
+fn changes_refuse_with_6_7_20_21_22() {
     let room = Room::new("change-refusals");
-    let roll = room.roll(&[(1, 1), (2, 2), (3, 65_534), (4, 65_535)]);
+    let roll = room.roll_with(&[(1, 1, 3), (2, 2, 2), (3, 65_534, 0), (4, 65_535, 255)]);
     let before = fs::read(&roll).unwrap();
-    let number = |subcommand: &str, contractor: &str| {
-        on_roll(subcommand, &roll, &format!("--contractor {contractor}")).refused()
+    let number = |subcommand: &str, contractor: &str, right: &str| {
+        let rest = format!("--contractor {contractor} {right}");
+        on_roll(subcommand, &roll, &rest).refused()
     };
     for outside in ["0", "201", "257", "65537", "4294967295"] {
-        assert_eq!(number("enter", outside), 6);
-        assert_eq!(number("withdraw", outside), 6);
+        assert_eq!(number("enter", outside, "--right 3"), 6);
+        assert_eq!(number("right", outside, "--right 3"), 6);
+        assert_eq!(number("withdraw", outside, ""), 6);
     }
-    assert_eq!(number("withdraw", "2"), 20);
-    assert_eq!(number("withdraw", "4"), 20);
-    assert_eq!(number("enter", "1"), 21);
-    assert_eq!(number("enter", "3"), 22);
-    assert_eq!(number("enter", "4"), 22);
+    for right in [
+        "--right 0",
+        "--right 3",
+        "--right 257",
+        "--right 4294967295",
+    ] {
+        for contractor in ["1", "2", "3", "4"] {
+            assert_eq!(number("enter", contractor, right), 7);
+            assert_eq!(number("right", contractor, right), 7);
+        }
+    }
+    for right in ["--right reading", "--right overwriting"] {
+        assert_eq!(number("right", "2", right), 20);
+        assert_eq!(number("right", "3", right), 20);
+        assert_eq!(number("right", "4", right), 20);
+        assert_eq!(number("enter", "1", right), 21);
+        assert_eq!(number("enter", "3", right), 22);
+        assert_eq!(number("enter", "4", right), 22);
+    }
+    assert_eq!(number("withdraw", "2", ""), 20);
+    assert_eq!(number("withdraw", "4", ""), 20);
     assert_eq!(fs::read(&roll).unwrap(), before);
     assert_eq!(room.names(), ["roll"]);
 }
 
 #[test]
-fn a_roll_has_400_bytes() {
+fn a_roll_has_600_bytes() {
     let room = Room::new("lengths");
-    for length in [0, 399, 401, 4000] {
+    for length in [0, 399, 401, 599, 601, 4000] {
         let roll = room.file("roll", &vec![0; length]);
-        for subcommand in ["enter", "withdraw"] {
-            let run = on_roll(subcommand, &roll, "--contractor 1");
-            run.stopped("not 400 bytes long");
+        for (subcommand, rest) in [
+            ("enter", "--contractor 1 --right 2"),
+            ("right", "--contractor 1 --right 2"),
+            ("withdraw", "--contractor 1"),
+            ("roll list", ""),
+        ] {
+            on_roll(subcommand, &roll, rest).stopped("not 600 bytes long");
         }
-        on_roll("roll list", &roll, "").stopped("not 400 bytes long");
         assert_eq!(fs::read(&roll).unwrap(), vec![0; length]);
     }
     assert_eq!(room.names(), ["roll"]);
@@ -116,7 +199,9 @@ fn a_roll_that_cannot_be_read_is_named() {
     for path in [room.path("none"), room.path(".")] {
         let named = format!("--roll: {}", path.display());
         on_roll("roll list", &path, "").stopped(&named);
-        on_roll("enter", &path, "--contractor 1").stopped(&named);
+        on_roll("enter", &path, "--contractor 1 --right 2").stopped(&named);
+        on_roll("right", &path, "--contractor 1 --right 2").stopped(&named);
+        on_roll("roll convert", &path, "--right 2").stopped(&named);
     }
     assert!(room.names().is_empty());
 }

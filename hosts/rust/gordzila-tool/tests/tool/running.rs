@@ -126,14 +126,30 @@ impl Room {
         path
     }
 
-    /// A file with a roll of these contractors and counts.
+    /// A file with a roll of these contractors and counts. They may overwrite.
     pub fn roll(&self, counts: &[(usize, u16)]) -> PathBuf {
-        let mut bytes = [0; 400];
-        for (contractor, count) in counts {
-            let at = 2 * (contractor - 1);
-            bytes[at..at + 2].copy_from_slice(&count.to_be_bytes());
+        let entries: Vec<(usize, u16, u8)> =
+            counts.iter().map(|&(n, count)| (n, count, 2)).collect();
+        self.roll_with(&entries)
+    }
+
+    /// A file with a roll of these contractors, counts and highest rights.
+    pub fn roll_with(&self, entries: &[(usize, u16, u8)]) -> PathBuf {
+        let mut bytes = empty_roll();
+        for &(contractor, count, highest) in entries {
+            put_count(&mut bytes, contractor, count);
+            bytes[399 + contractor] = highest;
         }
         self.file("roll", &bytes)
+    }
+
+    /// A file with a roll of these contractors and counts, as it was before version 0.6.
+    pub fn old_roll(&self, counts: &[(usize, u16)]) -> PathBuf {
+        let mut bytes = [0; 400];
+        for &(contractor, count) in counts {
+            put_count(&mut bytes, contractor, count);
+        }
+        self.file("old", &bytes)
     }
 
     /// The names of the files in it, in order.
@@ -151,6 +167,18 @@ impl Drop for Room {
     fn drop(&mut self) {
         let _ = fs::remove_dir_all(&self.0);
     }
+}
+
+/// The bytes of the empty roll: 200 counts of 0, two bytes each, and 200 rights of 1.
+pub fn empty_roll() -> [u8; 600] {
+    let mut bytes = [0; 600];
+    bytes[400..].fill(1);
+    bytes
+}
+
+fn put_count(roll: &mut [u8], contractor: usize, count: u16) {
+    let at = 2 * (contractor - 1);
+    roll[at..at + 2].copy_from_slice(&count.to_be_bytes());
 }
 
 /// Runs a subcommand with `--roll` and other options.

@@ -7,9 +7,9 @@ use std::os::unix::ffi::OsStrExt;
 use std::path::{Path, PathBuf};
 
 /// Each subcommand with all its options, `ROLL` for the name of a roll, `GRANTS` for that
-/// of a file with one line, `PAGE` for that of a page, and names that end in 2 for those of
-/// files that are made.
-const COMPLETE: [&str; 13] = [
+/// of a file with one line, `OLD` for that of a roll from before version 0.6, `PAGE` for that
+/// of a page, and names that end in 2 for those of files that are made.
+const COMPLETE: [&str; 15] = [
     "issue --key KEY --rounds 10 --roll ROLL --contractor 7 --block 300 --right 2",
     "check --key KEY --rounds 10 --roll ROLL --grant KEY --block 300 --right 2",
     "queue --key KEY --rounds 10 --roll ROLL --grants GRANTS --block 300 --right 2",
@@ -20,16 +20,19 @@ const COMPLETE: [&str; 13] = [
     "decipher --key KEY --rounds 10 --block KEY",
     "stage --key KEY --stage 3",
     "walk --key KEY --from 3 --to 5",
-    "enter --roll ROLL --contractor 8",
+    "enter --roll ROLL --contractor 8 --right 2",
+    "right --roll ROLL --contractor 7 --right 2",
     "withdraw --roll ROLL --contractor 7",
     "roll list --roll ROLL",
     "roll make --roll ROLL2",
+    "roll convert --roll OLD --right 2",
 ];
 
 /// The words of a complete line, over a roll on which contractor 7 is in standing.
 fn words(complete: &str, room: &Room) -> Vec<String> {
     let named = |path: PathBuf| path.to_str().unwrap().to_string();
     let roll = named(room.roll(&[(7, 1)]));
+    let old = named(room.old_roll(&[(7, 1)]));
     let grants = named(room.file("grants", KEY.as_bytes()));
     let sealed = gordzila::seal_page(PAGE_KEYS, 10, 300, 4, b"front panel").unwrap();
     let page = named(room.file("page", &sealed));
@@ -39,6 +42,7 @@ fn words(complete: &str, room: &Room) -> Vec<String> {
             "KEY" => KEY.to_string(),
             "OTHER" => OTHER_KEY.to_string(),
             "ROLL" => roll.clone(),
+            "OLD" => old.clone(),
             "GRANTS" => grants.clone(),
             "PAGE" => page.clone(),
             "ROLL2" | "PAGE2" | "PAYLOAD2" => named(room.path(word)),
@@ -132,6 +136,10 @@ fn no_other_option_is_taken() {
         }
     }
     line("enter --roll x --contractor 1 --key 00").stopped("`--key` is no option");
+    line("withdraw --right 1").stopped("`--right` is no option");
+    line("roll make --right 1").stopped("`--right` is no option");
+    line("roll list --right 1").stopped("`--right` is no option");
+    line("roll convert --contractor 1").stopped("`--contractor` is no option");
     line("stage --rounds 10").stopped("`--rounds` is no option");
     line("walk --stage 3").stopped("`--stage` is no option");
     line("queue --grant 00").stopped("`--grant` is no option");
@@ -242,9 +250,9 @@ fn a_subcommand_is_needed() {
     run::<&str>(&[]).stopped("a subcommand is missing");
     line("close").stopped("`close` is no subcommand");
     line("--key 00").stopped("`--key` is no subcommand");
-    line("roll").stopped("`make` or `list`");
+    line("roll").stopped("`make`, `list` or `convert`");
     line("roll mend --roll x").stopped("`mend`");
-    line("roll --roll x").stopped("`make` or `list`");
+    line("roll --roll x").stopped("`make`, `list` or `convert`");
 }
 
 #[test]
@@ -253,7 +261,7 @@ fn help_is_there_for_all() {
     assert_eq!(line("help").done(), tool);
     for name in [
         "issue", "check", "queue", "seal", "open", "encipher", "decipher", "stage", "walk",
-        "enter", "withdraw", "roll",
+        "enter", "right", "withdraw", "roll",
     ] {
         let help = line(&format!("help {name}")).done();
         assert!(help.contains(&format!("usage: gordzila {name} ")), "{help}");
@@ -340,9 +348,34 @@ fn help_tells_what_a_page_is_not() {
     }
 }
 
+/// A demotion must not be taken for the end of grants.
+#[test]
+fn help_tells_what_a_highest_right_does() {
+    for (name, words) in [
+        (
+            "issue",
+            "refused with 25 where the roll lets the contractor only read",
+        ),
+        ("check", "overwriting is refused with 25"),
+        ("right", "A demotion ends no grant"),
+        (
+            "right",
+            "To end them, withdraw the contractor and enter them again",
+        ),
+        ("roll", "replaces a file of 400 bytes by one of 600"),
+        (
+            "roll",
+            "With overwriting, each grant opens for what it opened for",
+        ),
+    ] {
+        let help = line(&format!("help {name}")).done();
+        assert!(help.replace('\n', " ").contains(words), "{words}: {help}");
+    }
+}
+
 #[test]
 fn help_tells_of_the_lock() {
-    for name in ["enter", "withdraw", "roll"] {
+    for name in ["enter", "right", "withdraw", "roll"] {
         let help = line(&format!("help {name}")).done();
         let text = help.replace('\n', " ");
         assert!(text.contains("there is a file FILE.lock"), "{help}");
@@ -368,7 +401,7 @@ fn output_that_gets_lost_is_told() {
         "help issue",
         COMPLETE[0],
         COMPLETE[2],
-        COMPLETE[11],
+        COMPLETE[12],
     ] {
         let run = run_unheard(&words(complete, &room));
         // These change nothing.

@@ -1,6 +1,6 @@
 //! How a roll's file is replaced: as a whole or not at all, by one process at a time.
 
-use crate::running::{on_roll, run_unheard, Room, Run, TOOL};
+use crate::running::{empty_roll, on_roll, run_unheard, Room, Run, TOOL};
 use std::ffi::OsStr;
 use std::fs::{self, File, OpenOptions, Permissions};
 use std::io::{ErrorKind, Read, Write};
@@ -13,7 +13,7 @@ use std::thread;
 fn enter_after(commands: &str, roll: &Path) -> Run {
     Command::new("sh")
         .args(["-c", &format!("{commands}; exec \"$@\""), "sh"])
-        .args([TOOL, "enter", "--contractor", "1", "--roll"])
+        .args([TOOL, "enter", "--contractor", "1", "--right", "2", "--roll"])
         .arg(roll)
         .output()
         .unwrap()
@@ -48,7 +48,7 @@ fn a_read_only_directory_leaves_the_old_file() {
     let before = fs::read(&roll).unwrap();
     let directory = roll.parent().unwrap();
     fs::set_permissions(directory, Permissions::from_mode(0o555)).unwrap();
-    let run = on_roll("enter", &roll, "--contractor 1");
+    let run = on_roll("enter", &roll, "--contractor 1 --right 2");
     let make = on_roll("roll make", &room.path("new"), "");
     fs::set_permissions(directory, Permissions::from_mode(0o755)).unwrap();
     run.stopped("Permission denied");
@@ -67,8 +67,8 @@ fn a_file_of_another_owner_is_left_alone() {
     }
     let given = Command::new("chown").arg("12345").arg(&roll).status();
     assert!(given.unwrap().success());
-    on_roll("enter", &roll, "--contractor 1").stopped("belongs to user 12345");
-    assert_eq!(fs::read(&roll).unwrap(), [0; 400]);
+    on_roll("enter", &roll, "--contractor 1 --right 2").stopped("belongs to user 12345");
+    assert_eq!(fs::read(&roll).unwrap(), empty_roll());
     assert_eq!(fs::metadata(&roll).unwrap().uid(), 12345);
     assert_eq!(room.names(), ["roll"]);
 }
@@ -77,9 +77,14 @@ fn a_file_of_another_owner_is_left_alone() {
 fn the_permissions_stay() {
     let room = Room::new("permissions");
     let roll = room.roll(&[]);
-    for (mode, subcommand) in [(0o600, "enter"), (0o664, "withdraw"), (0o444, "enter")] {
+    for (mode, subcommand, rest) in [
+        (0o600, "enter", "--right 2"),
+        (0o640, "right", "--right 1"),
+        (0o664, "withdraw", ""),
+        (0o444, "enter", "--right 1"),
+    ] {
         fs::set_permissions(&roll, Permissions::from_mode(mode)).unwrap();
-        on_roll(subcommand, &roll, "--contractor 1").done();
+        on_roll(subcommand, &roll, &format!("--contractor 1 {rest}")).done();
         let after = fs::metadata(&roll).unwrap().permissions().mode();
         assert_eq!(after & 0o777, mode);
     }
@@ -90,10 +95,10 @@ fn the_old_file_is_not_written_to() {
     let room = Room::new("whole");
     let roll = room.roll(&[]);
     let mut old = File::open(&roll).unwrap();
-    on_roll("enter", &roll, "--contractor 1").done();
+    on_roll("enter", &roll, "--contractor 1 --right 2").done();
     let mut bytes = Vec::new();
     old.read_to_end(&mut bytes).unwrap();
-    assert_eq!(bytes, [0; 400]);
+    assert_eq!(bytes, empty_roll());
     assert_eq!(fs::read(&roll).unwrap()[1], 1);
 }
 
@@ -107,12 +112,13 @@ fn a_file_with_a_second_name_is_left_alone() {
     symlink("second", &link).unwrap();
     let why = "it has more than one name (hard links); the others would keep the old roll";
     for name in [&roll, &second, &link] {
-        on_roll("enter", name, "--contractor 1").stopped(why);
+        on_roll("enter", name, "--contractor 1 --right 2").stopped(why);
+        on_roll("right", name, "--contractor 7 --right 1").stopped(why);
         on_roll("withdraw", name, "--contractor 7").stopped(why);
         assert_eq!(fs::read(name).unwrap(), before);
         // Reading goes on.
         let listed = on_roll("roll list", name, "").done();
-        assert_eq!(listed, "contractor 7, count 1\n");
+        assert_eq!(listed, "contractor 7, count 1, overwriting\n");
     }
     assert_eq!(room.names(), ["link", "roll", "second"]);
     fs::remove_file(&second).unwrap();
@@ -123,17 +129,27 @@ fn a_file_with_a_second_name_is_left_alone() {
 fn a_change_that_cannot_be_told_is_made() {
     let room = Room::new("untold");
     let roll = room.path("roll");
-    let count_after = |words: &[&str]| {
+    let entry_after = |words: &[&str]| {
         let mut words: Vec<&OsStr> = words.iter().map(OsStr::new).collect();
         words.extend([OsStr::new("--roll"), roll.as_os_str()]);
         let run = run_unheard(&words);
         assert!(run.err.contains("standard output: "), "{run:?}");
         run.stopped(", but the change is made");
-        fs::read(&roll).unwrap()[1]
+        let bytes = fs::read(&roll).unwrap();
+        (bytes.len(), bytes[1], bytes[400])
     };
-    assert_eq!(count_after(&["roll", "make"]), 0);
-    assert_eq!(count_after(&["enter", "--contractor", "1"]), 1);
-    assert_eq!(count_after(&["withdraw", "--contractor", "1"]), 2);
+    assert_eq!(entry_after(&["roll", "make"]), (600, 0, 1));
+    let of_1 = ["--contractor", "1"];
+    let with = |subcommand, right| [&[subcommand][..], &of_1, &["--right", right]].concat();
+    assert_eq!(entry_after(&with("enter", "2")), (600, 1, 2));
+    assert_eq!(entry_after(&with("right", "1")), (600, 1, 1));
+    assert_eq!(
+        entry_after(&[&["withdraw"], &of_1[..]].concat()),
+        (600, 2, 1)
+    );
+    fs::write(&roll, [1; 400]).unwrap();
+    let convert = ["roll", "convert", "--right", "2"];
+    assert_eq!(entry_after(&convert), (600, 1, 2));
 }
 
 #[test]
@@ -155,7 +171,7 @@ fn a_file_that_comes_meanwhile_is_not_replaced() {
             assert_eq!(fs::read(&roll).unwrap(), b"other");
         } else {
             run.done();
-            assert_eq!(fs::read(&roll).unwrap(), [0; 400]);
+            assert_eq!(fs::read(&roll).unwrap(), empty_roll());
         }
         assert_eq!(room.names(), ["roll"]);
     }
@@ -186,7 +202,7 @@ fn a_link_stays_a_link() {
     let roll = room.roll(&[]);
     let link = room.path("link");
     symlink("roll", &link).unwrap();
-    on_roll("enter", &link, "--contractor 1").done();
+    on_roll("enter", &link, "--contractor 1 --right 2").done();
     assert!(fs::symlink_metadata(&link).unwrap().is_symlink());
     assert_eq!(fs::read(&roll).unwrap()[1], 1);
     // The lock is on the file, whatever name it is reached by.
@@ -200,15 +216,16 @@ fn a_lock_keeps_other_changes_off() {
     let roll = room.roll(&[(2, 1)]);
     let before = fs::read(&roll).unwrap();
     let lock = room.file("roll.lock", b"");
-    on_roll("enter", &roll, "--contractor 1").stopped("roll.lock exists");
+    on_roll("enter", &roll, "--contractor 1 --right 2").stopped("roll.lock exists");
+    on_roll("right", &roll, "--contractor 2 --right 1").stopped("roll.lock exists");
     on_roll("withdraw", &roll, "--contractor 2").stopped("roll.lock exists");
     assert_eq!(fs::read(&roll).unwrap(), before);
     assert_eq!(room.names(), ["roll", "roll.lock"]);
     // Reading goes on.
     let listed = on_roll("roll list", &roll, "").done();
-    assert_eq!(listed, "contractor 2, count 1\n");
+    assert_eq!(listed, "contractor 2, count 1, overwriting\n");
     fs::remove_file(lock).unwrap();
-    on_roll("enter", &roll, "--contractor 1").done();
+    on_roll("enter", &roll, "--contractor 1 --right 2").done();
 }
 
 #[test]
@@ -222,7 +239,7 @@ fn no_change_gets_lost() {
         }
     });
     let expected: String = (1..=8)
-        .map(|contractor| format!("contractor {contractor}, count 1\n"))
+        .map(|contractor| format!("contractor {contractor}, count 1, reading\n"))
         .collect();
     assert_eq!(on_roll("roll list", &roll, "").done(), expected);
     assert_eq!(room.names(), ["roll"]);
@@ -231,7 +248,8 @@ fn no_change_gets_lost() {
 /// Enters a contractor, again and again while others hold the lock.
 fn enter_at_last(roll: &Path, contractor: u32) {
     loop {
-        let run = on_roll("enter", roll, &format!("--contractor {contractor}"));
+        let rest = format!("--contractor {contractor} --right reading");
+        let run = on_roll("enter", roll, &rest);
         if run.status == Some(0) {
             return;
         }

@@ -71,7 +71,7 @@ fn the_version_is_that_of_the_library_and_of_the_newest_changes() {
 fn the_declarations_are_those_of_the_header() {
     let header = in_c(&repository_file(HEADER));
     let declared = in_rust(&repository_file(DECLARATIONS));
-    assert_eq!(header.len(), 19);
+    assert_eq!(header.len(), 21);
     assert_eq!(declared, header);
 }
 
@@ -90,7 +90,7 @@ fn in_c(text: &str) -> Vec<String> {
 
 /// `const uint8_t *key` as `key: *const u8`, and so on.
 fn parameter_in_c(parameter: &str) -> String {
-    let parameter = parameter.split_whitespace().collect::<Vec<_>>().join(" ");
+    let parameter = in_one_line(parameter);
     for (c, rust) in [
         ("const uint8_t *", "*const u8"),
         ("uint8_t *", "*mut u8"),
@@ -105,17 +105,24 @@ fn parameter_in_c(parameter: &str) -> String {
     panic!("a parameter that the test does not know: {parameter}")
 }
 
-/// Each declared function as its name, its parameters and the bits that it returns.
+/// Each declared function as its name, its parameters and the bits that it returns,
+/// wherever its lines break.
 fn in_rust(text: &str) -> Vec<String> {
     let declared = text.split("\n    fn gordzila_").skip(1);
     declared
         .map(|rest| {
-            let (name, list, rest) = parts(rest, ") -> u");
+            let rest = in_one_line(rest);
+            let (name, list, rest) = parts(&rest, ") -> u");
             let (bits, _) = rest.split_once(';').unwrap();
             let parameters = list.split(',').map(|one| one.trim().to_string());
             signature(name, parameters.filter(|one| !one.is_empty()), bits)
         })
         .collect()
+}
+
+/// A text with one space for all white space between two words.
+fn in_one_line(text: &str) -> String {
+    text.split_whitespace().collect::<Vec<_>>().join(" ")
 }
 
 /// The name and the parameter list of a function, by what stands after them, and the rest.

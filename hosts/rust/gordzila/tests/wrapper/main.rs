@@ -2,6 +2,7 @@
 //! printed.
 
 mod header;
+mod highest;
 mod holder_refusals;
 mod holders;
 mod lives;

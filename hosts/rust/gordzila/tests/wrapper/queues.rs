@@ -8,11 +8,13 @@ use Right::{Overwriting, Reading};
 const KEY: [u8; 18] = [3; 18];
 const ROUNDS: u32 = 14;
 
-/// A roll on which contractor 7 is in standing with count 1, and contractor 8 was
-/// withdrawn, with count 2.
+/// A roll on which contractor 7 is in standing with count 1 and may overwrite, contractor 8
+/// was withdrawn, with count 2, and contractor 9 is in standing with count 1 and may only
+/// read.
 fn roll() -> Roll {
-    let mut bytes = [0; 400];
-    (bytes[13], bytes[15]) = (1, 2);
+    let mut bytes = *Roll::empty().bytes();
+    (bytes[13], bytes[15], bytes[17]) = (1, 2, 1);
+    bytes[406] = 2;
     Roll::from_bytes(&bytes).unwrap()
 }
 
@@ -25,11 +27,11 @@ fn grant([contractor, count, block, right]: [u8; 4]) -> [u8; 12] {
     encipher(&KEY, ROUNDS, &plain).unwrap()
 }
 
-/// A grant for each of 4 contractors, two of whom there are not, 2 counts, the size blocks
-/// 300 and 301, and 4 rights, two of which there are not.
+/// A grant for each of 4 contractors, the last of whom there is not, 2 counts, the size
+/// blocks 300 and 301, and 4 rights, two of which there are not.
 fn pile() -> Vec<[u8; 12]> {
     let mut pile = Vec::new();
-    for contractor in [7, 8, 0, 201] {
+    for contractor in [7, 8, 9, 201] {
         for count in [1, 3] {
             for block in [44, 45] {
                 pile.extend([2, 1, 0, 3].map(|right| grant([contractor, count, block, right])));
@@ -49,9 +51,18 @@ fn each_grant_gets_the_verdict_of_the_rules() {
         grant([7, 3, 44, 2]),
         grant([8, 1, 44, 2]),
         [0; 12],
+        grant([9, 1, 44, 2]),
+        grant([9, 3, 44, 2]),
         grant([7, 1, 44, 2]),
     ];
-    for (right, second) in [(Reading, Ok(())), (Overwriting, Err(Reason::OtherRight))] {
+    for (right, second, seventh) in [
+        (Reading, Ok(()), Ok(())),
+        (
+            Overwriting,
+            Err(Reason::OtherRight),
+            Err(Reason::AboveHighest),
+        ),
+    ] {
         let expected = [
             Ok(()),
             second,
@@ -59,6 +70,8 @@ fn each_grant_gets_the_verdict_of_the_rules() {
             Err(Reason::OtherCount),
             Err(Reason::NotInStanding),
             Err(Reason::NotAGrant),
+            seventh,
+            Err(Reason::OtherCount),
             Ok(()),
         ];
         let verdicts = check_queue(&KEY, ROUNDS, &roll(), &pile, 300, right).unwrap();
@@ -102,22 +115,27 @@ fn each_byte_is_the_refusal_of_the_single_check_or_0() {
         }
         given.extend(bytes);
     }
-    assert!(given.into_iter().eq([0, 8, 9, 10, 20, 23]));
+    assert!(given.into_iter().eq([0, 8, 9, 10, 20, 23, 25]));
 }
 
 #[test]
 fn a_change_of_the_roll_is_seen_by_every_grant_of_its_contractor() {
     let mut roll = Roll::empty();
-    roll.enter(7).unwrap();
-    roll.enter(8).unwrap();
+    roll.enter(7, Overwriting).unwrap();
+    roll.enter(8, Overwriting).unwrap();
     let issued = |contractor| issue(&KEY, ROUNDS, &roll, contractor, 300, Overwriting).unwrap();
     let pile = [issued(7), issued(8), issued(7)];
-    let verdicts = |roll: &Roll| check_queue(&KEY, ROUNDS, roll, &pile, 300, Reading).unwrap();
+    let verdicts = |roll: &Roll| check_queue(&KEY, ROUNDS, roll, &pile, 300, Overwriting).unwrap();
+    assert_eq!(verdicts(&roll), [Ok(()); 3]);
+    roll.change_right(7, Reading).unwrap();
+    let demoted = Err(Reason::AboveHighest);
+    assert_eq!(verdicts(&roll), [demoted, Ok(()), demoted]);
+    roll.change_right(7, Overwriting).unwrap();
     assert_eq!(verdicts(&roll), [Ok(()); 3]);
     roll.withdraw(7).unwrap();
     let dropped = Err(Reason::NotInStanding);
     assert_eq!(verdicts(&roll), [dropped, Ok(()), dropped]);
-    roll.enter(7).unwrap();
+    roll.enter(7, Overwriting).unwrap();
     let earlier = Err(Reason::OtherCount);
     assert_eq!(verdicts(&roll), [earlier, Ok(()), earlier]);
 }
@@ -164,7 +182,7 @@ fn the_whole_call_is_refused_with_1_2_3_4_7() {
         let or = |at, right: usize, wrong: usize| if faulty(at) { wrong } else { right };
         let grants = or(3, 0, 1) + or(4, 24, 780);
         let answers = grants / 12 - or(5, 0, 1);
-        let (key, rounds, roll) = (or(0, 18, 17), or(1, 14, 18) as u32, or(2, 400, 399));
+        let (key, rounds, roll) = (or(0, 18, 17), or(1, 14, 18) as u32, or(2, 600, 400));
         let given = number(key, rounds, roll, grants, or(6, 2, 3) as u32, answers);
         let first = (0..FAULTS.len()).find(|&at| faulty(at));
         assert_eq!(given, first.map_or(0, |at| FAULTS[at]), "{faults:07b}");
@@ -173,7 +191,7 @@ fn the_whole_call_is_refused_with_1_2_3_4_7() {
 
 #[test]
 fn the_lengths_have_these_limits() {
-    let of_grants = |grants| number(18, 14, 400, grants, 2, 200);
+    let of_grants = |grants| number(18, 14, 600, grants, 2, 200);
     for wrong in [1, 11, 13, 767, 769, 780, 792, 1024, 1536, 65_536, 65_548] {
         assert_eq!(of_grants(wrong), 3, "{wrong}");
     }
@@ -181,31 +199,31 @@ fn the_lengths_have_these_limits() {
         assert_eq!(of_grants(right), 0, "{right}");
     }
     for n in [1, 2, 63, 64] {
-        let of_answers = |answers| number(18, 14, 400, 12 * n, 2, answers);
+        let of_answers = |answers| number(18, 14, 600, 12 * n, 2, answers);
         assert_eq!((of_answers(0), of_answers(n - 1)), (4, 4), "{n}");
         assert_eq!((of_answers(n), of_answers(n + 1)), (0, 0), "{n}");
         assert_eq!((of_answers(256), of_answers(65_536)), (0, 0), "{n}");
     }
     // Too many grants, however many answers there are.
     for answers in [0, 63, 64, 65, 66, 200] {
-        assert_eq!(number(18, 14, 400, 780, 2, answers), 3, "{answers}");
+        assert_eq!(number(18, 14, 600, 780, 2, answers), 3, "{answers}");
     }
 }
 
 #[test]
 fn what_is_wrong_is_refused_without_grants_too() {
     for grants in [0, 12, 768] {
-        assert_eq!(number(11, 10, 400, grants, 2, 64), 1);
-        assert_eq!(number(24, 17, 400, grants, 2, 64), 2);
-        assert_eq!(number(24, 24, 400, grants, 2, 64), 2);
-        for roll in [0, 200, 399, 401] {
+        assert_eq!(number(11, 10, 600, grants, 2, 64), 1);
+        assert_eq!(number(24, 17, 600, grants, 2, 64), 2);
+        assert_eq!(number(24, 24, 600, grants, 2, 64), 2);
+        for roll in [0, 200, 399, 400, 401, 599, 601] {
             assert_eq!(number(24, 18, roll, grants, 2, 64), 3, "{roll}");
         }
         for right in [0, 3, 257, 258, u32::MAX] {
-            assert_eq!(number(24, 18, 400, grants, right, 64), 7, "{right}");
+            assert_eq!(number(24, 18, 600, grants, right, 64), 7, "{right}");
         }
-        assert_eq!(number(24, 18, 400, grants, 1, 64), 0);
+        assert_eq!(number(24, 18, 600, grants, 1, 64), 0);
     }
-    assert_eq!(number(24, 18, 400, 0, 1, 0), 0);
-    assert_eq!(number(24, 18, 400, 0, 3, 0), 7);
+    assert_eq!(number(24, 18, 600, 0, 1, 0), 0);
+    assert_eq!(number(24, 18, 600, 0, 3, 0), 7);
 }

@@ -71,7 +71,7 @@ fn the_readers_are_those_of_the_header() {
 fn a_check_says_what_the_readers_say() {
     for contractor in [1, 7, 200] {
         let mut roll = Roll::empty();
-        roll.enter(contractor).unwrap();
+        roll.enter(contractor, Right::Overwriting).unwrap();
         for right in [Right::Reading, Right::Overwriting] {
             let grant = gordzila::issue(&[1; 12], 10, &roll, contractor, 300, right).unwrap();
             for (block, asked) in [(300, 1), (300, 2), (301, 1), (300, 3)] {
@@ -92,7 +92,7 @@ fn a_check_says_what_the_readers_say() {
 #[test]
 fn a_queue_says_what_the_reader_says() {
     let (key, mut roll) = (&[1; 12], Roll::empty());
-    roll.enter(7).unwrap();
+    roll.enter(7, Right::Overwriting).unwrap();
     let issued = |right| gordzila::issue(key, 10, &roll, 7, 300, right).unwrap();
     let pile = [issued(Right::Reading), [0; 12], issued(Right::Overwriting)];
     for (rounds, right) in [

@@ -1,12 +1,14 @@
 //! Each refusal of each call, in the order of the header, and that a call that refuses
 //! writes nothing.
 
-use gordzila::{raw, Opened, Reason, Right, Roll};
+use gordzila::{raw, Opened, Reason, Right, Roll, ROLL_BYTES};
 
-/// A roll on which contractor 7 is in standing.
-fn roll() -> [u8; 400] {
+/// A roll on which contractor 7 is in standing and may overwrite, and contractor 9 is in
+/// standing and may only read.
+fn roll() -> [u8; ROLL_BYTES] {
     let mut roll = Roll::empty();
-    roll.enter(7).unwrap();
+    roll.enter(7, Right::Overwriting).unwrap();
+    roll.enter(9, Right::Reading).unwrap();
     *roll.bytes()
 }
 
@@ -106,24 +108,104 @@ fn stages_and_subkeys_refuse_with_1_5_4() {
 }
 
 #[test]
-fn the_roll_refuses_with_3_6_and_its_state() {
-    let mut short = [0; 399];
-    assert_eq!(raw::enter(&mut short, 0), Err(Reason::InputLength));
-    assert_eq!(raw::withdraw(&mut short, 0), Err(Reason::InputLength));
-    assert_eq!(raw::enter_number(&mut [], 1), 3);
-    assert_eq!(raw::withdraw_number(&mut [0; 401], 1), 3);
-    let mut roll = roll();
-    assert_eq!(raw::enter(&mut roll, 0), Err(Reason::Contractor));
-    assert_eq!(raw::withdraw(&mut roll, 201), Err(Reason::Contractor));
-    assert_eq!(raw::enter(&mut roll, 7), Err(Reason::InStanding));
-    assert_eq!(raw::withdraw(&mut roll, 8), Err(Reason::NotInStanding));
-    assert_eq!(roll, self::roll());
-    roll[12..14].copy_from_slice(&[0xff, 0xfe]);
-    assert_eq!(raw::enter(&mut roll, 7), Err(Reason::CountSpent));
+fn the_empty_roll_refuses_with_4() {
+    for short in [0, 1, 399, 400, 599] {
+        assert_eq!(numbered(short, 600, raw::empty_roll_number), 4, "{short}");
+    }
+    for enough in [600, 601, 1000] {
+        assert_eq!(numbered(enough, 600, raw::empty_roll_number), 0, "{enough}");
+    }
+    assert_eq!(raw::empty_roll(&mut [0; 599]), Err(Reason::OutputTooShort));
+}
+
+/// The number that a call on a roll answers; if it is not 0, the roll stays.
+fn on_roll(roll: &[u8], call: impl Fn(&mut [u8]) -> u32) -> u32 {
+    let mut after = roll.to_vec();
+    let number = call(&mut after);
+    assert_eq!(number == 0, after != roll);
+    number
 }
 
 #[test]
-fn issuing_refuses_with_1_2_3_4_6_7_20() {
+fn entering_refuses_with_3_6_7_21_22() {
+    let roll = roll();
+    let number = |roll: &[u8], contractor, right| {
+        on_roll(roll, |roll| raw::enter_number(roll, contractor, right))
+    };
+    for length in [0, 399, 400, 401, 599, 601] {
+        assert_eq!(number(&vec![0; length], 0, 0), 3, "{length}");
+    }
+    for contractor in [0, 201, 263, u32::MAX] {
+        assert_eq!(number(&roll, contractor, 0), 6, "{contractor}");
+    }
+    // 7 comes before the state, whatever that is.
+    let mut spent = roll;
+    spent[14..16].copy_from_slice(&[0xff, 0xfe]);
+    for right in [0, 3, 257, 258, u32::MAX] {
+        assert_eq!(number(&roll, 7, right), 7, "{right}");
+        assert_eq!(number(&roll, 8, right), 7, "{right}");
+        assert_eq!(number(&spent, 8, right), 7, "{right}");
+    }
+    for right in [1, 2] {
+        assert_eq!(number(&roll, 7, right), 21);
+        assert_eq!(number(&roll, 9, right), 21);
+        assert_eq!(number(&spent, 8, right), 22);
+        assert_eq!(number(&roll, 8, right), 0);
+    }
+    let entered = raw::enter(&mut roll.clone(), 8, 3);
+    assert_eq!(entered, Err(Reason::Right));
+}
+
+#[test]
+fn changing_refuses_with_3_6_7_20() {
+    let roll = roll();
+    let number = |roll: &[u8], contractor, right| {
+        on_roll(roll, |roll| {
+            raw::change_right_number(roll, contractor, right)
+        })
+    };
+    for length in [0, 399, 400, 401, 599, 601] {
+        assert_eq!(number(&vec![0; length], 0, 0), 3, "{length}");
+    }
+    for contractor in [0, 201, 263, u32::MAX] {
+        assert_eq!(number(&roll, contractor, 0), 6, "{contractor}");
+    }
+    for right in [0, 3, 257, 258, u32::MAX] {
+        assert_eq!(number(&roll, 7, right), 7, "{right}");
+        assert_eq!(number(&roll, 8, right), 7, "{right}");
+    }
+    assert_eq!((number(&roll, 8, 1), number(&roll, 8, 2)), (20, 20));
+    assert_eq!((number(&roll, 7, 1), number(&roll, 9, 2)), (0, 0));
+    // The right that they have already is taken, and the roll stays.
+    let mut same = roll;
+    assert_eq!(raw::change_right(&mut same, 7, 2), Ok(()));
+    assert_eq!(raw::change_right(&mut same, 9, 1), Ok(()));
+    assert_eq!(same, roll);
+    assert_eq!(
+        raw::change_right(&mut same, 8, 2),
+        Err(Reason::NotInStanding)
+    );
+}
+
+#[test]
+fn withdrawing_refuses_with_3_6_20() {
+    let roll = roll();
+    let number =
+        |roll: &[u8], contractor| on_roll(roll, |roll| raw::withdraw_number(roll, contractor));
+    for length in [0, 399, 400, 401, 599, 601] {
+        assert_eq!(number(&vec![0; length], 0), 3, "{length}");
+    }
+    assert_eq!((number(&roll, 0), number(&roll, 201)), (6, 6));
+    assert_eq!(number(&roll, 8), 20);
+    assert_eq!((number(&roll, 7), number(&roll, 9)), (0, 0));
+    assert_eq!(
+        raw::withdraw(&mut roll.clone(), 201),
+        Err(Reason::Contractor)
+    );
+}
+
+#[test]
+fn issuing_refuses_with_1_2_3_4_6_7_20_25() {
     let roll = roll();
     let number = |key: usize, rounds, roll: &[u8], out, contractor, right| {
         numbered(out, 12, |out| {
@@ -132,18 +214,23 @@ fn issuing_refuses_with_1_2_3_4_6_7_20() {
     };
     assert_eq!(number(11, 0, &[], 0, 0, 0), 1);
     assert_eq!(number(12, 0, &[], 0, 0, 0), 2);
-    assert_eq!(number(12, 10, &[], 0, 0, 0), 3);
+    for length in [0, 399, 400, 401, 599] {
+        assert_eq!(number(12, 10, &roll[..length], 0, 0, 0), 3, "{length}");
+    }
+    assert_eq!(number(12, 10, &[0; 601], 0, 0, 0), 3);
     assert_eq!(number(12, 10, &roll, 11, 0, 0), 4);
     assert_eq!(number(12, 10, &roll, 12, 0, 0), 6);
     assert_eq!(number(12, 10, &roll, 12, 201, 0), 6);
     assert_eq!(number(12, 10, &roll, 12, 8, 0), 7);
     assert_eq!(number(12, 10, &roll, 12, 8, 3), 7);
     assert_eq!(number(12, 10, &roll, 12, 8, 2), 20);
+    assert_eq!(number(12, 10, &roll, 12, 9, 2), 25);
+    assert_eq!(number(12, 10, &roll, 12, 9, 1), 0);
     assert_eq!(number(12, 10, &roll, 13, 7, 2), 0);
 }
 
 #[test]
-fn checking_refuses_with_1_2_3_7_8_9_10_20_23() {
+fn checking_refuses_with_1_2_3_7_8_9_10_20_23_25() {
     let (key, roll, mut grant, mut reading) = ([1; 12], roll(), [0; 12], [0; 12]);
     raw::issue(&key, 10, &roll, 7, 300, 2, &mut grant).unwrap();
     raw::issue(&key, 10, &roll, 7, 300, 1, &mut reading).unwrap();
@@ -153,16 +240,24 @@ fn checking_refuses_with_1_2_3_7_8_9_10_20_23() {
     assert_eq!(number(&[], 0, &[], &[], 0, 0), 1);
     assert_eq!(number(&key, 0, &[], &[], 0, 0), 2);
     assert_eq!(number(&key, 10, &roll, &[], 0, 0), 3);
-    assert_eq!(number(&key, 10, &[], &grant, 0, 0), 3);
+    for length in [0, 399, 400, 401, 599] {
+        assert_eq!(number(&key, 10, &roll[..length], &grant, 0, 0), 3);
+    }
+    assert_eq!(number(&key, 10, &[0; 601], &grant, 0, 0), 3);
     assert_eq!(number(&key, 10, &roll, &[0; 12], 0, 0), 7);
     assert_eq!(number(&key, 10, &roll, &[0; 12], 0, 1), 8);
     assert_eq!(number(&key, 11, &roll, &grant, 300, 2), 8);
-    assert_eq!(number(&key, 10, &[0; 400], &reading, 301, 2), 9);
-    assert_eq!(number(&key, 10, &[0; 400], &reading, 300, 2), 10);
-    assert_eq!(number(&key, 10, &[0; 400], &grant, 300, 2), 20);
+    // On a roll of zeros nobody is in standing, and nobody may overwrite.
+    assert_eq!(number(&key, 10, &[0; 600], &reading, 301, 2), 9);
+    assert_eq!(number(&key, 10, &[0; 600], &reading, 300, 2), 10);
+    assert_eq!(number(&key, 10, &[0; 600], &grant, 300, 2), 20);
     let mut later = roll;
-    later[13] = 3;
+    (later[13], later[406]) = (3, 1);
     assert_eq!(number(&key, 10, &later, &grant, 300, 2), 23);
+    later[13] = 1;
+    assert_eq!(number(&key, 10, &later, &reading, 300, 2), 10);
+    assert_eq!(number(&key, 10, &later, &grant, 300, 2), 25);
+    assert_eq!(number(&key, 10, &later, &grant, 300, 1), 1007);
     assert_eq!(number(&key, 10, &roll, &grant, 300, 2), 2007);
     let opened = Opened {
         contractor: 7,

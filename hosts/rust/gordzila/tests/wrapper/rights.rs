@@ -7,10 +7,10 @@ use Right::{Overwriting, Reading};
 const KEY: [u8; 18] = [3; 18];
 const ROUNDS: u32 = 14;
 
-/// A roll on which contractor 7 has a count.
+/// A roll on which contractor 7 has a count, and may overwrite.
 fn roll(count: u8) -> Roll {
-    let mut bytes = [0; 400];
-    bytes[13] = count;
+    let mut bytes = *Roll::empty().bytes();
+    (bytes[13], bytes[406]) = (count, 2);
     Roll::from_bytes(&bytes).unwrap()
 }
 
@@ -48,7 +48,7 @@ fn each_right_in_a_grant_opens_for_these_and_answers_the_one_asked_for() {
 fn a_look_answers_1001_to_1200() {
     for contractor in [1, 7, 200] {
         let mut roll = Roll::empty();
-        roll.enter(contractor).unwrap();
+        roll.enter(contractor, Overwriting).unwrap();
         let grant = issue(&KEY, ROUNDS, &roll, contractor, 300, Overwriting).unwrap();
         let number = |asked| raw::check_number(&KEY, ROUNDS, roll.bytes(), &grant, 300, asked);
         assert_eq!(

@@ -1,0 +1,166 @@
+-- Checks and issues on rolls on which a contractor has not the right to overwrite.
+use mathlib.Core.Path.{_≡_, refl, sym, ap, ap₂, _∙_, subst}
+use mathlib.Core.Bool.{Bool, true, false}
+use mathlib.Core.List.{List, [], _∷_, _++_}
+use Prim.Native.Nat.{ℕ}
+use native.Mathlib.Omega.{arith}
+use lib.Dec.{eqb, lit<}
+use lib.ListN.{length}
+use borrow.Author.Tests.{eqb-true}
+use Rattle.refusal.specs.Tries.{Try, _unless_, first}
+use Rattle.refusal.proofs.Tries.{none-given, first-then, first-holds}
+use Rattle.refusal.proofs.Ladder.{all-pass}
+use Rattle.refusal.proofs.Given.{given-by}
+use Rattle.refusal.proofs.Answers.{answer-done}
+use Rattle.rights.specs.Rights.{covers, withinHighest}
+use Rattle.rights.proofs.Rights.{covers-overwriting, within-reading, within-overwriting, above-highest}
+use Rattle.roll.specs.declared.Roll.{Roll}
+use Rattle.roll.specs.declared.Entry.{Entry}
+use Rattle.roll.specs.Roll.{countOf, figureOf, entryOf, inStanding}
+use Rattle.roll_changes.specs.Changes.{changeTries, changedEntry, changeNumber, changedRoll}
+use Rattle.histories.specs.Histories.{Change, change, changed, rollAfter, Withdrawn, Raised, IsRoll}
+use Rattle.histories.proofs.Calls.{changing, changed-own, changed-roll}
+use Rattle.histories.proofs.Demoted.{stays, stays-low}
+use Rattle.grant.specs.Grants.{contractorIn, countIn, rightIn, isGrant}
+use Rattle.issuing.specs.Issuing.{issueTries}
+use Rattle.judging.specs.Judging.{inputTries, askedTries, plainTries}
+use Rattle.checking.specs.Checking.{openedGrant, checkTries, checkNumber, checkContractor}
+use Rattle.revocation.specs.Claims.{Accepted, SameCheck}
+use Rattle.revocation.proofs.Checks.{passed}
+use Rattle.revocation.proofs.Others.{same-answers, same-entry}
+use Rattle.demotion.specs.Claims.{NoOverwriting, Above}
+
+-- ---- a figure that is not 2
+pub no-overwriting : (roll : Roll) (c : ℕ) → (figureOf roll c ≡ 2 → ⊥) → NoOverwriting roll c
+no-overwriting roll c low = record {
+  opens = λ key rounds grant block e z.
+      let h = passed key rounds roll grant block 2 z in
+      let two = within-overwriting (figureOf roll (contractorIn (openedGrant key rounds grant))) (h .1 .1 .1 .1 .1 .1 .1 .1 .1 .0) in
+      low (ap (figureOf roll) (sym e) ∙ two);
+  issued = λ key rounds block out z.
+      low (within-overwriting (figureOf roll c) (all-pass (issueTries key rounds roll c block 2 out) refl z .1 .1 .1 .1 .1 .1 .0));
+}
+
+-- ---- a demotion that is accepted
+module _ (roll : Roll) (is : IsRoll roll) (c : ℕ) (accepted : changeNumber roll c 1 ≡ 0) where
+  -- the roll after it
+  pub low-roll : IsRoll (changedRoll roll c 1)
+  unfolding changed
+  low-roll = changed-roll (change c 1) roll is
+
+  pub low-entry : entryOf (changedRoll roll c 1) c ≡ changedEntry 1 (countOf roll c)
+  unfolding changed
+  low-entry = changed-own (change c 1) roll is accepted
+
+  low-count : countOf (changedRoll roll c 1) c ≡ countOf roll c
+  low-count = ap (λ (e : Entry). e .count) low-entry
+
+  pub low-figure : figureOf (changedRoll roll c 1) c ≡ 2 → ⊥
+  low-figure two = omega (arith, ap (λ (e : Entry). e .figure) low-entry, two)
+
+  standing : inStanding (countOf roll c) ≡ true
+  standing = changing roll c 1 accepted .standing
+
+  pub never-overwrites : (hs : List Change) → (Raised c hs (changedRoll roll c 1) → ⊥) → NoOverwriting (rollAfter hs (changedRoll roll c 1)) c
+  never-overwrites hs n = no-overwriting (rollAfter hs (changedRoll roll c 1)) c (stays-low hs (changedRoll roll c 1) low-roll c low-figure n)
+
+  -- raised again
+  pub raised-entry : figureOf roll c ≡ 2 → entryOf (changedRoll (changedRoll roll c 1) c 2) c ≡ entryOf roll c
+  unfolding changed
+  raised-entry two =
+      let w = changing roll c 1 accepted in
+      let ts = changeTries c 2 (countOf (changedRoll roll c 1) c) in
+      let again = none-given ts (w .contractor, (refl, (ap inStanding low-count ∙ w .standing, tt))) in
+      changed-own (change c 2) (changedRoll roll c 1) low-roll again ∙ (λ i. record { count = low-count i; figure = sym two i })
+
+  -- the count over later calls
+  pub same-count : (hs : List Change) → (Withdrawn c hs (changedRoll roll c 1) → ⊥) → countOf (rollAfter hs (changedRoll roll c 1)) c ≡ countOf roll c
+  same-count hs n = stays hs (changedRoll roll c 1) c (ap inStanding low-count ∙ standing) n ∙ low-count
+
+  module _ (key : List ℕ) (rounds : ℕ) (grant : List ℕ) (block : ℕ) (named : contractorIn (openedGrant key rounds grant) ≡ c) where
+    pub raised-check : figureOf roll c ≡ 2 → (right : ℕ) → SameCheck key rounds roll (changedRoll (changedRoll roll c 1) c 2) grant block right
+    raised-check two right =
+        let other = changedRoll (changedRoll roll c 1) c 2 in
+        same-entry key rounds roll other grant block right
+        (subst (λ (d : ℕ). entryOf other d ≡ entryOf roll d) (sym named) (raised-entry two))
+
+    -- what opened for overwriting passes all that is tried before 25, and not that
+    pub above : checkNumber key rounds roll grant block 2 ≡ 0 → checkNumber key rounds (changedRoll roll c 1) grant block 2 ≡ 25
+    above z =
+        let p = openedGrant key rounds grant in
+        let low = changedRoll roll c 1 in
+        let h = passed key rounds roll grant block 2 z in
+        let t = h .1 .1 .1 .1 in
+        let n : countOf roll (contractorIn p) ≡ countOf low (contractorIn p) =
+        ap (countOf roll) named ∙ sym low-count ∙ ap (countOf low) (sym named) in
+        let s = ap inStanding (sym n) ∙ t .1 .1 .1 .0 in
+        let w = ap (eqb (countIn p)) (sym n) ∙ t .1 .1 .1 .1 .0 in
+        let before : List Try =
+        inputTries (length key) rounds (eqb (length grant) 12) 2
+        ++ ((8 unless isGrant p) ∷ (askedTries p block 2
+        ++ ((20 unless inStanding (countOf low (contractorIn p))) ∷ (23 unless eqb (countIn p) (countOf low (contractorIn p))) ∷ []))) in
+        first-then before ((25 unless withinHighest 2 (figureOf low (contractorIn p))) ∷ [])
+        (h .0, (h .1 .0, (h .1 .1 .0, (refl, (t .0, (t .1 .0, (t .1 .1 .0, (s, (w, tt)))))))))
+        ∙ first-holds _ _ (not-within (figureOf low (contractorIn p)) (λ two. low-figure (ap (figureOf low) (sym named) ∙ two)))
+      where
+        not-within : (figure : ℕ) → (figure ≡ 2 → ⊥) → withinHighest 2 figure ≡ false
+        not-within figure n = by (withinHighest 2 figure) refl
+          where
+            by : (b : Bool) → withinHighest 2 figure ≡ b → b ≡ false
+            by true e = absurd (n (within-overwriting figure e))
+            by false e = refl
+
+-- ---- reading
+-- where two rolls have the same count for the grant's contractor, a check for reading answers the same: no figure is below reading
+pub same-reading : (key : List ℕ) (rounds : ℕ) (roll other : Roll) (grant : List ℕ) (block : ℕ)
+    → countOf other (contractorIn (openedGrant key rounds grant)) ≡ countOf roll (contractorIn (openedGrant key rounds grant))
+    → SameCheck key rounds roll other grant block 1
+same-reading key rounds roll other grant block e =
+    let p = openedGrant key rounds grant in
+    let c = contractorIn p in
+    let number : ℕ → Bool → ℕ =
+    λ n b. first (inputTries (length key) rounds (eqb (length grant) 12) 1
+    ++ ((8 unless isGrant p) ∷ (askedTries p block 1
+    ++ ((20 unless inStanding n) ∷ (23 unless eqb (countIn p) n) ∷ (25 unless b) ∷ [])))) in
+    same-answers key rounds roll other grant block 1
+    (ap₂ number e (within-reading (figureOf other c) ∙ sym (within-reading (figureOf roll c))))
+
+-- ---- accepted checks
+-- the contractor who is answered is the one whom the grant names
+pub named-by : (key : List ℕ) (rounds : ℕ) (roll : Roll) (grant : List ℕ) (block right c : ℕ) → Accepted key rounds roll grant block right c
+    → contractorIn (openedGrant key rounds grant) ≡ c
+unfolding checkContractor
+named-by key rounds roll grant block right c a =
+    answer-done (checkTries key rounds roll grant block right) (contractorIn (openedGrant key rounds grant)) 0 (a .number) ∙ a .answers-contractor
+
+-- what was accepted on one roll is accepted on another where the check is the same
+pub accepted-as : {key : List ℕ} {rounds : ℕ} {roll other : Roll} {grant : List ℕ} {block right c : ℕ}
+    → SameCheck key rounds roll other grant block right → Accepted key rounds roll grant block right c → Accepted key rounds other grant block right c
+accepted-as s a = record {
+  number = s .number ∙ a .number;
+  answers-contractor = s .answers-contractor ∙ a .answers-contractor;
+  answers-right = s .answers-right ∙ a .answers-right;
+}
+
+-- ---- when 25 is given
+-- of any input, and of any entry: so of the check, and of the C call on a roll's bytes
+pub twenty-five : (key : List ℕ) (rounds : ℕ) (lengths : Bool) (roll : Roll) (grant : List ℕ) (block right : ℕ)
+    → first (inputTries (length key) rounds lengths right
+    ++ plainTries (openedGrant key rounds grant) (entryOf roll (contractorIn (openedGrant key rounds grant))) block right) ≡ 25
+    → Above key rounds roll grant right
+twenty-five key rounds lengths roll grant block right e =
+    let p = openedGrant key rounds grant in
+    let n = countOf roll (contractorIn p) in
+    let f = figureOf roll (contractorIn p) in
+    let before : List Try =
+    inputTries (length key) rounds lengths right
+    ++ ((8 unless isGrant p) ∷ (askedTries p block right ++ ((20 unless inStanding n) ∷ (23 unless eqb (countIn p) n) ∷ []))) in
+    let g = given-by 25 (lit< tt) (withinHighest right f) [] refl before refl e in
+    let a = above-highest right f (g .0 .1 .1 .1 .0) (g .1) in
+    let t = g .0 .1 .1 .1 .1 in
+    record {
+      asked = a .0;
+      overwrites = covers-overwriting (rightIn p) (ap (covers (rightIn p)) (sym (a .0)) ∙ t .1 .1 .0);
+      current = eqb-true (countIn p) n (t .1 .1 .1 .1 .0);
+      low = a .1;
+    }

@@ -1,0 +1,2 @@
+pub mod Demoted
+pub mod Claims
