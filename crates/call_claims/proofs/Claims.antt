@@ -1,24 +1,28 @@
 -- A term of each type of specs/Claims.antt.
 use mathlib.Core.Path.{_≡_, refl, sym, ap, _∙_}
-use mathlib.Core.Bool.{Bool, true, false}
+use mathlib.Core.Bool.{true}
 use mathlib.Core.List.{List, [], _∷_}
-use Prim.Native.Nat.{ℕ, _≤_}
+use Prim.Native.Nat.{ℕ}
 use native.Mathlib.Omega.{arith}
-use lib.Dec.{leb, lit<}
+use lib.Dec.{lit<}
 use lib.ListN.{length, replicate}
-use borrow.Author.Tests.{leb-true, leb-false, eqb-true}
+use borrow.Author.Tests.{eqb-true}
 use Rattle.refusal.specs.Tries.{first, written, answered, NoneHolds}
 use Rattle.refusal.proofs.Tries.{none-given}
 use Rattle.refusal.proofs.Ladder.{all-pass}
 use Rattle.refusal.proofs.Answers.{starts}
 use Rattle.cipher.specs.Cipher.{cipherBlock}
-use Rattle.roll.specs.Roll.{countOf, inStanding, counted}
+use Rattle.roll.specs.Roll.{emptyRoll, countOf, figureOf, inStanding, withEntry}
 use Rattle.roll_changes.specs.Changes.{enteredRoll}
 use Rattle.roll_bytes.specs.RollBytes.{countsOf, rollLength, rollOf, countsBytes, rollBytes}
+use Rattle.roll_bytes.specs.Lemmas.{RollTellsBytes}
+use Rattle.roll_bytes.proofs.Entries.{length-empty}
+use Rattle.roll_bytes.proofs.Lemmas.{roll-tells-bytes}
 use Rattle.histories.specs.Histories.{Change, enter, rollAfter}
-use Rattle.histories.proofs.Counts.{zeros-small}
+use Rattle.histories.proofs.Calls.{zeros-small, empty-roll}
 use Rattle.grant.specs.declared.Verdict.the-variants.{Opens, Refused}
 use Rattle.rights.specs.Rights.{isRight}
+use Rattle.rights.proofs.Rights.{within-two}
 use Rattle.issuing.specs.Issuing.{issueTries, issuedGrant}
 use Rattle.checking.specs.Checking.{checkNumber}
 use Rattle.revocation.specs.Claims.{Issued, OpensNothing, IssuedOpens, RevokedNeverOpens, RevokedInTwoRooms}
@@ -28,12 +32,12 @@ use Rattle.roll_calls.specs.RollCalls.{enterCallRoll}
 use Rattle.issue_call.specs.IssueCall.{issueCallTries, issueCallNumber, issueCallOutput}
 use Rattle.call_claims.specs.CallHistories.{called, bytesAfter, here, CallIssued, grantGiven}
 use Rattle.call_claims.specs.Claims.{CodesTellVerdicts, ChecksNameContractors, CallInOrder, CallOpensExactlyWhen, CallNeverZero, CallIsCheck}
-use Rattle.call_claims.specs.Claims.{BytesFollowRoll, CallChecks, CallIssuedOpens, CallOverwritingOpensReading, CallTenOnlyForOverwriting}
-use Rattle.call_claims.specs.Claims.{CallAnswersTo7, Refuses, CallsRevoke, CallsRevokeInTwoRooms, CallsRevokeSomething}
+use Rattle.call_claims.specs.Claims.{Holds, BytesFollowRoll, CallChecks, CallIssuedOpens, CallOverwritingOpensReading, CallTenOnlyForOverwriting}
+use Rattle.call_claims.specs.Claims.{bytesWith7, CallAnswersTo7, Refuses, CallsRevoke, CallsRevokeInTwoRooms, CallsRevokeSomething}
 use Rattle.call_claims.proofs.Codes as codes
-use Rattle.call_claims.proofs.Opens.{checked-contractor, in-order, is-check, call-opening, call-accepted, never-zero, call-passed}
+use Rattle.call_claims.proofs.Opens.{checked-contractor, in-order, is-check, call-opening, call-accepted, never-zero, call-refuses}
 use Rattle.call_claims.proofs.Opens.{call-given, call-ten, call-refused, call-looks}
-use Rattle.call_claims.proofs.Stored.{is-roll, after-holds, withdrawn-read}
+use Rattle.call_claims.proofs.Stored.{is-roll, rolls-bytes, after-holds, withdrawn-read}
 
 -- ---- the check's number
 pub codes-tell-verdicts : CodesTellVerdicts
@@ -84,7 +88,7 @@ module _ (key : List ℕ) (rounds : ℕ) (roll : List ℕ) (contractor block rig
     number = none-given (issueTries key rounds (rollOf roll) contractor block right out) (allowed .0, (allowed .1 .0, allowed .1 .1 .1));
   }
 
-  given : grantGiven key rounds roll contractor block right out ≡ issuedGrant key rounds (rollOf roll) contractor block right
+  pub given : grantGiven key rounds roll contractor block right out ≡ issuedGrant key rounds (rollOf roll) contractor block right
   unfolding issueCallOutput issuedGrant cipherBlock
   given = starts (issueCallNumber key rounds roll contractor block right out) (issuedGrant key rounds (rollOf roll) contractor block right) out (i .number) .1
 
@@ -108,17 +112,9 @@ module _ (key : List ℕ) (rounds : ℕ) (roll : List ℕ) (contractor block rig
   -- where it opens nothing on the roll after some calls, gordzila_check refuses it on the bytes after them
   refused : (hs : List Change) → OpensNothing key rounds (rollAfter hs (rollOf roll)) (issuedGrant key rounds (rollOf roll) contractor block right)
       → Refuses key rounds (bytesAfter hs roll) (grantGiven key rounds roll contractor block right out)
-  unfolding CallNeverZero
-  refused hs n b r = (call-never-zero key rounds (bytesAfter hs roll) g b r, by (leb (callCode key rounds (bytesAfter hs roll) g b r) 999) refl)
-    where
-      g : List ℕ
-      g = grantGiven key rounds roll contractor block right out
-
-      by : (t : Bool) → leb (callCode key rounds (bytesAfter hs roll) g b r) 999 ≡ t → callCode key rounds (bytesAfter hs roll) g b r ≤ 999
-      by true t = leb-true _ 999 t
-      by false t =
-          let e = call-passed key rounds (bytesAfter hs roll) g b r (leb-false _ 999 t) .1 in
-          absurd (n b r ((λ j. checkNumber key rounds (sym (after-holds hs roll (i .roll-bytes) long .read) j) (sym given j) b r) ∙ e))
+  refused hs n b r =
+      call-refuses key rounds (bytesAfter hs roll) (grantGiven key rounds roll contractor block right out) b r
+      (λ e. n b r ((λ j. checkNumber key rounds (sym (after-holds hs roll (i .roll-bytes) long .read) j) (sym given j) b r) ∙ e))
 
 pub call-issued-opens : CallIssuedOpens
 unfolding CallIssuedOpens
@@ -132,25 +128,34 @@ pub call-ten-only-for-overwriting : CallTenOnlyForOverwriting
 unfolding CallTenOnlyForOverwriting
 call-ten-only-for-overwriting = call-ten
 
--- on zeros contractor 7 is entered, and gets a grant with either right
-issued-7 : (right : ℕ) → isRight right ≡ true
-    → CallIssued (replicate 12 0) 10 (bytesAfter (enter 7 ∷ []) (replicate rollLength 0)) 7 300 right (replicate 12 0)
-unfolding bytesAfter called enterCallRoll first written answered rollOf countsOf rollBytes countsBytes countOf inStanding counted enteredRoll
-issued-7 right q =
-    let roll = bytesAfter (enter 7 ∷ []) (replicate rollLength 0) in
-    record {
-      key-bytes = zeros-small (lit< tt) 12;
-      roll-bytes = after-holds (enter 7 ∷ []) (replicate rollLength 0) (zeros-small (lit< tt) rollLength) refl .small;
-      block-small = lit< tt;
-      number = none-given (issueCallTries (replicate 12 0) 10 roll 7 300 right (replicate 12 0)) (refl, (refl, (refl, (refl, (refl, (q, (refl, tt)))))));
-    }
+-- the empty roll's bytes, and those after contractor 7 is entered
+empty-holds : Holds (rollBytes emptyRoll) emptyRoll
+unfolding RollTellsBytes
+empty-holds = record {
+  small = rolls-bytes emptyRoll empty-roll;
+  long = length-empty;
+  read = roll-tells-bytes emptyRoll (empty-roll .many) (empty-roll .small);
+}
+
+pub holds-7 : Holds bytesWith7 (rollAfter (enter 7 2 ∷ []) (rollOf (rollBytes emptyRoll)))
+holds-7 = after-holds (enter 7 2 ∷ []) (rollBytes emptyRoll) (empty-holds .small) (empty-holds .long)
+
+-- contractor 7 gets a grant with either right
+pub issued-7 : (right : ℕ) → isRight right ≡ true → CallIssued (replicate 12 0) 10 bytesWith7 7 300 right (replicate 12 0)
+unfolding bytesAfter called enterCallRoll first written answered rollOf countsOf rollBytes countsBytes emptyRoll countOf figureOf inStanding withEntry enteredRoll
+issued-7 right q = record {
+  key-bytes = zeros-small (lit< tt) 12;
+  roll-bytes = holds-7 .small;
+  block-small = lit< tt;
+  number = none-given (issueCallTries (replicate 12 0) 10 bytesWith7 7 300 right (replicate 12 0))
+      (refl, (refl, (refl, (refl, (refl, (q, (refl, (within-two right q, tt))))))));
+}
 
 pub call-answers-to-7 : CallAnswersTo7
 unfolding CallAnswersTo7
 call-answers-to-7 =
-    let roll = bytesAfter (enter 7 ∷ []) (replicate rollLength 0) in
-    let overwriting = checks (replicate 12 0) 10 roll 7 300 2 (replicate 12 0) (issued-7 2 refl) in
-    let reading = checks (replicate 12 0) 10 roll 7 300 1 (replicate 12 0) (issued-7 1 refl) in
+    let overwriting = checks (replicate 12 0) 10 bytesWith7 7 300 2 (replicate 12 0) (issued-7 2 refl) in
+    let reading = checks (replicate 12 0) 10 bytesWith7 7 300 1 (replicate 12 0) (issued-7 1 refl) in
     (overwriting .looks refl, (overwriting .opens, (reading .opens, reading .only-reads refl)))
 
 pub calls-revoke : CallsRevoke
@@ -169,6 +174,6 @@ calls-revoke-in-two-rooms key rounds roll contractor block right out i xs ys zs 
     (is-roll roll (i .roll-bytes) (long key rounds roll contractor block right out i)) xs ys zs m w)
 
 pub calls-revoke-something : CallsRevokeSomething
-unfolding CallsRevokeSomething bytesAfter called enterCallRoll first written answered rollOf countsOf rollBytes countsBytes countOf inStanding counted
-    enteredRoll
+unfolding CallsRevokeSomething bytesAfter called enterCallRoll first written answered rollOf countsOf rollBytes countsBytes emptyRoll countOf inStanding
+    withEntry enteredRoll
 calls-revoke-something = (issued-7 2 refl, here refl)

@@ -4,9 +4,9 @@ use mathlib.Core.Bool.{Bool, true, false, cond, _&&_}
 use mathlib.Core.List.{List, _++_}
 use Prim.Native.Nat.{ℕ, _+_, _*_, _≤_, _<_}
 use native.Mathlib.Omega.{arith}
-use lib.Dec.{eqb}
+use lib.Dec.{eqb, leb}
 use lib.ListN.{length}
-use borrow.Author.Tests.{eqb-true, eqb-false, eq-eqb}
+use borrow.Author.Tests.{eqb-true, eqb-false, eq-eqb, leb-true, leb-false}
 use Rattle.basics.specs.Bytes.{AreBytes}
 use Rattle.basics.proofs.Tests.{and-first, and-second}
 use Rattle.refusal.specs.Tries.{first, answered}
@@ -18,7 +18,7 @@ use Rattle.roll_bytes.specs.RollBytes.{rollLength, rollOf}
 use Rattle.roll.proofs.Contractors.{a-contractor}
 use Rattle.grant.specs.Grants.{contractorIn}
 use Rattle.judging.specs.Judging.{inputTries, plainTries}
-use Rattle.checking.specs.Checking.{openedGrant, countNow, checkTries, checkNumber, checkContractor, checkRight}
+use Rattle.checking.specs.Checking.{openedGrant, entryNow, checkTries, checkNumber, checkContractor, checkRight}
 use Rattle.rights.proofs.Rights.{right-least}
 use Rattle.grant.proofs.Tests.{a-grant}
 use Rattle.revocation.specs.Claims.{Opening, Accepted, ReadingGrant, OpensExactlyWhen, OverwritingOpensReading}
@@ -38,7 +38,7 @@ answer-some n x h = by (eqb n 0) refl
     by false e = omega (arith, eqb-false n 0 e)
 
 -- an answer that is below any of a grant that opens is the refusal
-refused-with : (n x k : ℕ) → (n ≡ 0 → k < x) → answered n x n ≡ k → n ≡ k
+pub refused-with : (n x k : ℕ) → (n ≡ 0 → k < x) → answered n x n ≡ k → n ≡ k
 unfolding answered
 refused-with n x k h e = by (eqb n 0) refl e
   where
@@ -75,7 +75,7 @@ module _ (key : List ℕ) (rounds : ℕ) (roll grant : List ℕ) (block right : 
   numbered-as : Bool → ℕ
   numbered-as b =
       first (inputTries (length key) rounds (b && eqb (length grant) 12) right
-      ++ plainTries (openedGrant key rounds grant) (countNow key rounds (rollOf roll) grant) block right)
+      ++ plainTries (openedGrant key rounds grant) (entryNow key rounds (rollOf roll) grant) block right)
 
   pub is-check : length roll ≡ rollLength → callCode key rounds roll grant block right ≡ checkCode key rounds (rollOf roll) grant block right
   unfolding callCode checkContractor checkRight numbered-as
@@ -105,6 +105,15 @@ module _ (key : List ℕ) (rounds : ℕ) (roll grant : List ℕ) (block right : 
         none-given (checkTries key rounds (rollOf roll) grant block right) (t .0, (t .1 .0, (and-second l g (t .1 .1 .0), t .1 .1 .1))),
       )
 
+  -- so where the check is refused, the call's number is a refusal's
+  pub call-refuses : (checkNumber key rounds (rollOf roll) grant block right ≡ 0 → ⊥)
+      → (1 ≤ callCode key rounds roll grant block right) × (callCode key rounds roll grant block right ≤ 999)
+  call-refuses n = (never-zero, by (leb (callCode key rounds roll grant block right) 999) refl)
+    where
+      by : (t : Bool) → leb (callCode key rounds roll grant block right) 999 ≡ t → callCode key rounds roll grant block right ≤ 999
+      by true t = leb-true _ 999 t
+      by false t = absurd (n (call-passed (leb-false _ 999 t) .1))
+
   -- and what it answered is the call's number
   pub call-given : length roll ≡ rollLength → (c : ℕ) → Accepted key rounds (rollOf roll) grant block right c
       → callCode key rounds roll grant block right ≡ 1000 * right + c
@@ -121,7 +130,7 @@ module _ (key : List ℕ) (rounds : ℕ) (roll grant : List ℕ) (block right : 
   call-ten e =
       let ts = callTries key rounds roll grant block right in
       let lengths = eqb (length roll) rollLength && eqb (length grant) 12 in
-      ten key rounds lengths grant (countNow key rounds (rollOf roll) grant) block right
+      ten key rounds lengths grant (entryNow key rounds (rollOf roll) grant) block right
       (refused-with (first ts) (1000 * right + contractorIn (openedGrant key rounds grant)) 10
       (λ z. omega (arith, right-least right (all-pass ts refl z .1 .1 .1 .0))) e)
 

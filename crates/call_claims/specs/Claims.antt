@@ -10,7 +10,8 @@ use Rattle.basics.specs.Bytes.{AreBytes}
 use Rattle.refusal.specs.Tries.{first, answered}
 use Rattle.refusal.specs.Claims.{Ordered}
 use Rattle.roll.specs.declared.Roll.{Roll}
-use Rattle.roll_bytes.specs.RollBytes.{rollLength, rollOf}
+use Rattle.roll.specs.Roll.{emptyRoll}
+use Rattle.roll_bytes.specs.RollBytes.{rollLength, rollOf, rollBytes}
 use Rattle.histories.specs.Histories.{Change, enter, withdraw, rollAfter, Withdraws, Merge}
 use Rattle.grant.specs.declared.Verdict.{Verdict}
 use Rattle.grant.specs.declared.Verdict.the-variants.{Opens, Refused}
@@ -109,11 +110,14 @@ unfoldable pub CallTenOnlyForOverwriting : Type 0
 CallTenOnlyForOverwriting = (key : List ℕ) (rounds : ℕ) (roll grant : List ℕ) (block right : ℕ)
     → callCode key rounds roll grant block right ≡ 10 → ReadingGrant key rounds grant right
 
--- an example. On zeros contractor 7 is entered, and gets a grant for size block 300 with a right; what the check of it answers, asked for another
+-- an example. On the bytes of the empty roll contractor 7 is entered for overwriting, and gets a grant for size block 300 with a right; what the
+-- check of it answers, asked for another
+abbrev pub bytesWith7 : List ℕ
+bytesWith7 = bytesAfter (enter 7 2 ∷ []) (rollBytes emptyRoll)
+
 abbrev pub answerTo7 : ℕ → ℕ → ℕ
 answerTo7 right asked =
-    callCode (replicate 12 0) 10 (bytesAfter (enter 7 ∷ []) (replicate rollLength 0))
-    (grantGiven (replicate 12 0) 10 (bytesAfter (enter 7 ∷ []) (replicate rollLength 0)) 7 300 right (replicate 12 0)) 300 asked
+    callCode (replicate 12 0) 10 bytesWith7 (grantGiven (replicate 12 0) 10 bytesWith7 7 300 right (replicate 12 0)) 300 asked
 
 unfoldable pub CallAnswersTo7 : Type 0
 CallAnswersTo7 = (answerTo7 2 1 ≡ 1007) × ((answerTo7 2 2 ≡ 2007) × ((answerTo7 1 1 ≡ 1007) × (answerTo7 1 2 ≡ 10)))
@@ -124,7 +128,7 @@ abbrev pub Refuses : List ℕ → ℕ → List ℕ → List ℕ → Type 0
 Refuses key rounds roll grant = (block right : ℕ)
     → (1 ≤ callCode key rounds roll grant block right) × (callCode key rounds roll grant block right ≤ 999)
 
--- whatever is entered and withdrawn: once a gordzila_withdraw of its contractor has answered 0, the grant is refused, under the key and round
+-- whatever is entered, withdrawn and changed: once a gordzila_withdraw of its contractor has answered 0, the grant is refused, under the key and round
 -- count that it was issued with
 unfoldable pub CallsRevoke : Type 0
 CallsRevoke = (key : List ℕ) (rounds : ℕ) (roll : List ℕ) (contractor block right : ℕ) (out : List ℕ)
@@ -139,8 +143,7 @@ CallsRevokeInTwoRooms = (key : List ℕ) (rounds : ℕ) (roll : List ℕ) (contr
     → (xs ys zs : List Change) → Merge xs ys zs → Withdraws contractor xs ⊎ Withdraws contractor ys
     → Refuses key rounds (bytesAfter zs roll) (grantGiven key rounds roll contractor block right out)
 
--- there are such calls: on zeros, contractor 7 is entered, gets a grant, and is withdrawn
+-- there are such calls: contractor 7, entered so, gets a grant, and is withdrawn
 unfoldable pub CallsRevokeSomething : Type 0
 CallsRevokeSomething =
-    CallIssued (replicate 12 0) 10 (bytesAfter (enter 7 ∷ []) (replicate rollLength 0)) 7 300 2 (replicate 12 0)
-    × CallWithdrawn 7 (withdraw 7 ∷ []) (bytesAfter (enter 7 ∷ []) (replicate rollLength 0))
+    CallIssued (replicate 12 0) 10 bytesWith7 7 300 2 (replicate 12 0) × CallWithdrawn 7 (withdraw 7 ∷ []) bytesWith7

@@ -27,6 +27,7 @@ use Rattle.holder_walk_call.specs.WalkCall.{walkCallCode}
 use Rattle.holder_calls.proofs.KnownAnswers as HC
 use Rattle.holder_walk_call.proofs.KnownAnswers as HW
 use Rattle.numbers.proofs.KnownAnswers as N
+use Rattle.rights.proofs.KnownAnswers as RI
 use Rattle.roll.proofs.KnownAnswers as R
 use Rattle.roll_changes.proofs.KnownAnswers as RC
 use Rattle.roll_bytes.proofs.KnownAnswers as RB
@@ -39,13 +40,13 @@ use Rattle.key_pairs.proofs.KnownAnswers as KP
 use Rattle.pages.proofs.KnownAnswers as P
 use Rattle.page_cases.proofs.KnownAnswers as PC
 use Rattle.roll.specs.declared.Roll.{Roll}
-use Rattle.roll.specs.Roll.{countOf, inStanding}
-use Rattle.rights.specs.Rights.{covers}
+use Rattle.roll.specs.Roll.{countOf, figureOf, entryOf, inStanding}
+use Rattle.rights.specs.Rights.{covers, highest, withinHighest}
 use Rattle.grant.specs.Grants.{contractorIn, countIn, sizeBlockIn, isMarked, isGrant}
 use Rattle.judging.specs.Judging.{inputTries, plainTries}
 use Rattle.checking.specs.Checking.{openedGrant}
 use Rattle.queue.specs.Queue.{queueAnswers}
-use Rattle.cases.specs.KnownAnswers.{overwritingOf1, readingOf1, overwritingOf2, overwritingOf3}
+use Rattle.cases.specs.KnownAnswers.{overwritingOf1, readingOf1, overwritingOf2, earlierOf3, overwritingOf3}
 use Rattle.cases.specs.KnownAnswers.{knownAnswers, pileAnswers, orderAnswers, allKnownAnswers, KnownAnswersHold}
 
 -- a holder's bytes, from its stage
@@ -82,22 +83,31 @@ unfolding openedGrant cipherBlock listFor subkeys turned listedFrom enciphered r
     columnRule moved linearStep constant stage
 opened-c = refl
 
-opened-d : openedGrant keyOf12 10 overwritingOf3 ≡ threes (0x000300 ∷ 0x010000 ∷ 0x012C02 ∷ 0x475244 ∷ [])
+opened-d : openedGrant keyOf12 10 earlierOf3 ≡ threes (0x000300 ∷ 0x010000 ∷ 0x012C02 ∷ 0x475244 ∷ [])
 unfolding openedGrant cipherBlock listFor subkeys turned listedFrom enciphered rounds round lastRound sbox tableP tableQ times product reduced columns plus
     columnRule moved linearStep constant stage
 opened-d = refl
 
+opened-e : openedGrant keyOf12 10 overwritingOf3 ≡ threes (0x000300 ∷ 0x030000 ∷ 0x012C02 ∷ 0x475244 ∷ [])
+unfolding openedGrant cipherBlock listFor subkeys turned listedFrom enciphered rounds round lastRound sbox tableP tableQ times product reduced columns plus
+    columnRule moved linearStep constant stage
+opened-e = refl
+
 -- what its check says, from its plain bytes
 abbrev said : ℕ → List ℕ → List ℕ → ℕ
 said r g p =
-    let roll : Roll = record { counts = 1 ∷ 2 ∷ 3 ∷ [] } in
-    first (inputTries 12 10 (eqb (length g) 12) r ++ plainTries p (countOf roll (contractorIn p)) 300 r)
+    let roll : Roll = record { counts = 1 ∷ 2 ∷ 3 ∷ []; rights = 2 ∷ 1 ∷ 255 ∷ [] } in
+    first (inputTries 12 10 (eqb (length g) 12) r ++ plainTries p (entryOf roll (contractorIn p)) 300 r)
 
 piles : Hold pileAnswers
-unfolding pileAnswers queueAnswers listedFrom first countOf inStanding covers contractorIn countIn sizeBlockIn isMarked isGrant
+unfolding pileAnswers queueAnswers listedFrom first highest withinHighest countOf figureOf inStanding covers contractorIn countIn sizeBlockIn isMarked isGrant
 piles =
-    (λ j. said 2 overwritingOf1 (opened-a j) ∷ said 2 readingOf1 (opened-b j) ∷ said 2 overwritingOf2 (opened-c j) ∷ said 2 overwritingOf3 (opened-d j) ∷ [])
-    & (λ j. said 1 overwritingOf1 (opened-a j) ∷ said 1 readingOf1 (opened-b j) ∷ said 1 overwritingOf2 (opened-c j) ∷ said 1 overwritingOf3 (opened-d j) ∷ [])
+    (λ j.
+    said 2 overwritingOf1 (opened-a j) ∷ said 2 readingOf1 (opened-b j) ∷ said 2 overwritingOf2 (opened-c j) ∷ said 2 earlierOf3 (opened-d j)
+    ∷ said 2 overwritingOf3 (opened-e j) ∷ [])
+    & (λ j.
+    said 1 overwritingOf1 (opened-a j) ∷ said 1 readingOf1 (opened-b j) ∷ said 1 overwritingOf2 (opened-c j) ∷ said 1 earlierOf3 (opened-d j)
+    ∷ said 1 overwritingOf3 (opened-e j) ∷ [])
     & tt
 
 orders : Hold orderAnswers
@@ -109,7 +119,7 @@ unfolding KnownAnswersHold allKnownAnswers
 known-answers-hold =
     S.known-answers & B.known-answers & K.known-answers & L.known-answers
     & H.known-answers & HB.known-answers & HC.known-answers & HW.known-answers
-    & N.known-answers & R.known-answers & RC.known-answers & RB.known-answers
+    & N.known-answers & RI.known-answers & R.known-answers & RC.known-answers & RB.known-answers
     & G.known-answers & J.known-answers & I.known-answers & C.known-answers
     & QP.known-answers & KP.known-answers & P.known-answers
     & PC.known-answers & PC.altered-answers & PC.padded-answers & PC.order-answers & PC.chain-answers

@@ -1,7 +1,7 @@
 -- The known answers: beside document 01's thirteen cases, a second list of computed facts, which pins definitions that no case of document 01
 -- pins. What is expected is what the independent program prints, line by line (`reference answers`); `tools/known-answers` compares the two.
 -- Each crate has those of its definitions beside them; here stand those that take long to compute, the last stages with their subkeys and holders,
--- the closing sums and a queue of four grants, and the claim over them all. Where that program has no such call, document 01's order lines are taken
+-- the closing sums and a queue of five grants, and the claim over them all. Where that program has no such call, document 01's order lines are taken
 -- as they stand.
 use mathlib.Core.List.{List, [], _∷_}
 use Prim.Native.Nat.{ℕ}
@@ -28,6 +28,7 @@ use Rattle.holder_subkey_call.specs.SubkeyCall.{heldSubkeyNumber}
 use Rattle.holder_calls.specs.KnownAnswers as HC
 use Rattle.holder_walk_call.specs.KnownAnswers as HW
 use Rattle.numbers.specs.KnownAnswers as N
+use Rattle.rights.specs.KnownAnswers as RI
 use Rattle.roll.specs.KnownAnswers as R
 use Rattle.roll_changes.specs.KnownAnswers as RC
 use Rattle.roll_bytes.specs.KnownAnswers as RB
@@ -76,7 +77,7 @@ knownAnswers =
     ∷ (stepConstant 4 24 is threes (0xDE830C ∷ 0x372888 ∷ 0x1AD622 ∷ 0x3F464E ∷ 0x18ED16 ∷ 0x7CAD89 ∷ 0x9C8707 ∷ 0x980488 ∷ []))
     ∷ []
 
--- four grants for size block 300: two of contractor 1, to overwrite and to read, and one each of contractors 2 and 3, to overwrite
+-- five grants for size block 300: two of contractor 1, to overwrite and to read, one of contractor 2 and two of contractor 3, all to overwrite
 abbrev pub overwritingOf1 : List ℕ
 overwritingOf1 = threes (0xB417AE ∷ 0x7E1AC7 ∷ 0x3FD1F5 ∷ 0x39778B ∷ [])
 
@@ -86,19 +87,27 @@ readingOf1 = threes (0xA02BB5 ∷ 0x8A47F6 ∷ 0x6F97A1 ∷ 0x612E3D ∷ [])
 abbrev pub overwritingOf2 : List ℕ
 overwritingOf2 = threes (0xC7F8AD ∷ 0xDE77CD ∷ 0xB748D2 ∷ 0x10E78D ∷ [])
 
-abbrev pub overwritingOf3 : List ℕ
-overwritingOf3 = threes (0x2C100F ∷ 0x1A8C1A ∷ 0x855F58 ∷ 0x9773B9 ∷ [])
+abbrev pub earlierOf3 : List ℕ
+earlierOf3 = threes (0x2C100F ∷ 0x1A8C1A ∷ 0x855F58 ∷ 0x9773B9 ∷ [])
 
--- in one queue: the check of each, where contractors 1, 2 and 3 have their numbers as counts. Contractor 2 is not in standing, and the grant of
--- contractor 3 is from an earlier one
+abbrev pub overwritingOf3 : List ℕ
+overwritingOf3 = threes (0x527FA1 ∷ 0x3339DF ∷ 0xA7377A ∷ 0xFFD78E ∷ [])
+
+abbrev pub pile : List ℕ
+pile = joined (overwritingOf1 ∷ readingOf1 ∷ overwritingOf2 ∷ earlierOf3 ∷ overwritingOf3 ∷ [])
+
+-- in one queue: the check of each, where contractors 1, 2 and 3 have their numbers as counts, and only contractor 1 may overwrite. Contractor 2 is not in
+-- standing, and the first grant of contractor 3 is from an earlier one
 unfoldable pub pileAnswers : List Case
 pileAnswers =
-    -- queue 0f1e2d3c4b5a69788796a5b4 10 1,2,3 b417ae7e1ac73fd1f539778ba02bb58a47f66f97a1612e3dc7f8adde77cdb748d210e78d2c100f1a8c1a855f589773b9 300 2
-    (queueAnswers keyOf12 10 record { counts = 1 ∷ 2 ∷ 3 ∷ [] } (joined (overwritingOf1 ∷ readingOf1 ∷ overwritingOf2 ∷ overwritingOf3 ∷ [])) 300 2
-    is (0 ∷ 10 ∷ 20 ∷ 23 ∷ []))
-    -- queue 0f1e2d3c4b5a69788796a5b4 10 1,2,3 b417ae7e1ac73fd1f539778ba02bb58a47f66f97a1612e3dc7f8adde77cdb748d210e78d2c100f1a8c1a855f589773b9 300 1
-    ∷ (queueAnswers keyOf12 10 record { counts = 1 ∷ 2 ∷ 3 ∷ [] } (joined (overwritingOf1 ∷ readingOf1 ∷ overwritingOf2 ∷ overwritingOf3 ∷ [])) 300 1
-    is (0 ∷ 0 ∷ 20 ∷ 23 ∷ []))
+    -- queue 0f1e2d3c4b5a69788796a5b4 10 1,2,3 2,1,255 \
+    -- b417ae7e1ac73fd1f539778ba02bb58a47f66f97a1612e3dc7f8adde77cdb748d210e78d2c100f1a8c1a855f589773b9527fa13339dfa7377affd78e 300 2
+    (queueAnswers keyOf12 10 record { counts = 1 ∷ 2 ∷ 3 ∷ []; rights = 2 ∷ 1 ∷ 255 ∷ [] } pile 300 2
+    is (0 ∷ 10 ∷ 20 ∷ 23 ∷ 25 ∷ []))
+    -- queue 0f1e2d3c4b5a69788796a5b4 10 1,2,3 2,1,255 \
+    -- b417ae7e1ac73fd1f539778ba02bb58a47f66f97a1612e3dc7f8adde77cdb748d210e78d2c100f1a8c1a855f589773b9527fa13339dfa7377affd78e 300 1
+    ∷ (queueAnswers keyOf12 10 record { counts = 1 ∷ 2 ∷ 3 ∷ []; rights = 2 ∷ 1 ∷ 255 ∷ [] } pile 300 1
+    is (0 ∷ 0 ∷ 20 ∷ 23 ∷ 0 ∷ []))
     ∷ []
 
 -- document 01's order lines of the other calls, where two neighbours hold together
@@ -136,6 +145,7 @@ allKnownAnswers =
     ∷ HC.knownAnswers
     ∷ HW.knownAnswers
     ∷ N.knownAnswers
+    ∷ RI.knownAnswers
     ∷ R.knownAnswers
     ∷ RC.knownAnswers
     ∷ RB.knownAnswers

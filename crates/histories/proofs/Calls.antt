@@ -79,24 +79,24 @@ writes (withdraw c) roll e =
     record { contractor = w .contractor; least = omega arith; most = omega (arith, s .below); byte = lit< tt }
 
 -- ---- the roll after it
-abbrev pub written : Change → Roll → Roll
-written h roll = withEntry roll (contractorOf h) (newEntry h (countOf roll (contractorOf h)))
+abbrev pub written-roll : Change → Roll → Roll
+written-roll h roll = withEntry roll (contractorOf h) (newEntry h (countOf roll (contractorOf h)))
 
-pub changed-is : (h : Change) (roll : Roll) → changed h roll ≡ answered (numberOf h roll) (written h roll) roll
+pub changed-is : (h : Change) (roll : Roll) → changed h roll ≡ answered (numberOf h roll) (written-roll h roll) roll
 unfolding changed enteredRoll withdrawnRoll changedRoll
 changed-is (enter c r) roll = refl
 changed-is (change c r) roll = refl
 changed-is (withdraw c) roll = refl
 
 -- what holds of the roll that is written where the call is not refused, and of the roll as it was, holds of the roll after it
-pub changed-either : (P : Roll → Type 0) (h : Change) (roll : Roll) → (numberOf h roll ≡ 0 → P (written h roll)) → P roll → P (changed h roll)
-changed-either P h roll f r = subst⁻¹ P (changed-is h roll) (answer-either P (numberOf h roll) (written h roll) roll f r)
+pub changed-either : (P : Roll → Type 0) (h : Change) (roll : Roll) → (numberOf h roll ≡ 0 → P (written-roll h roll)) → P roll → P (changed h roll)
+changed-either P h roll f r = subst⁻¹ P (changed-is h roll) (answer-either P (numberOf h roll) (written-roll h roll) roll f r)
 
-pub changed-done : (h : Change) (roll : Roll) → numberOf h roll ≡ 0 → changed h roll ≡ written h roll
-changed-done h roll e = changed-is h roll ∙ sym (is-answered (numberOf h roll) (written h roll) roll e)
+pub changed-done : (h : Change) (roll : Roll) → numberOf h roll ≡ 0 → changed h roll ≡ written-roll h roll
+changed-done h roll e = changed-is h roll ∙ sym (is-answered (numberOf h roll) (written-roll h roll) roll e)
 
 pub changed-refused : (h : Change) (roll : Roll) → 0 < numberOf h roll → changed h roll ≡ roll
-changed-refused h roll l = changed-is h roll ∙ sym (not-answered (numberOf h roll) (written h roll) roll l)
+changed-refused h roll l = changed-is h roll ∙ sym (not-answered (numberOf h roll) (written-roll h roll) roll l)
 
 -- no count falls
 pub changed-grows : (h : Change) (roll : Roll) (d : ℕ) → countOf roll d ≤ countOf (changed h roll) d

@@ -1,17 +1,18 @@
 -- A list of calls on the roll, one call more at a time, and the answer to a grant that was kept meanwhile.
-use mathlib.Core.Path.{_≡_, refl, sym, ap, _∙_, subst⁻¹}
+use mathlib.Core.Path.{_≡_, refl, sym, ap, ap₂, _∙_, subst⁻¹}
 use mathlib.Core.Bool.{Bool, cond}
 use mathlib.Core.List.{List, [], _∷_, _++_}
 use Prim.Native.Nat.{ℕ, _+_, _%_, _/_, _≤_, _<_}
 use native.Mathlib.Omega.{arith}
 use native.Mathlib.Numerals.{add-one}
+use lib.Dec.{eqb}
 use lib.ListN.{length, getD, take}
 use lib.Seq.{take-suc, take-all}
 use borrow.Author.Tests.{eq-eqb, ne-eqb}
 use Rattle.refusal.specs.Tries.{Try}
 use Rattle.refusal.proofs.Answers.{answer-refused, answer-done}
 use Rattle.basics.specs.Bytes.{AreBytes}
-use Rattle.histories.specs.Histories.{enter, withdraw}
+use Rattle.histories.specs.Histories.{Change, enter, change, withdraw}
 use Rattle.check_call.specs.CheckCall.{callCode}
 use Rattle.issue_call.specs.IssueCall.{issueCallTries, issueCallNumber, issueCallOutput}
 use Rattle.call_claims.specs.CallHistories.{called, bytesAfter, CallIssued, grantGiven}
@@ -20,13 +21,21 @@ use Rattle.call_claims.proofs.Claims.{calls-revoke}
 use Rattle.kept_grants.specs.Kept.{changeFrom, changesFrom, Revoked, keptCode, keptRoll}
 
 -- ---- the calls, one after the other
-pub enters : (n : ℕ) → n % 2 ≡ 0 → changeFrom n ≡ enter (n / 2)
-unfolding changeFrom
-enters n e = ap (λ (b : Bool). cond b (enter (n / 2)) (withdraw (n / 2))) (eq-eqb (n % 2) 0 e)
+-- the call that a number stands for, by the tests of it
+call-by : ℕ → Bool → Bool → Change
+call-by n a b = cond a (enter (n / 12) (n / 3 % 4)) (cond b (change (n / 12) (n / 3 % 4)) (withdraw (n / 12)))
 
-pub withdraws : (n : ℕ) → (n % 2 ≡ 0 → ⊥) → changeFrom n ≡ withdraw (n / 2)
-unfolding changeFrom
-withdraws n d = ap (λ (b : Bool). cond b (enter (n / 2)) (withdraw (n / 2))) (ne-eqb (n % 2) 0 d)
+pub enters : (n : ℕ) → n % 3 ≡ 0 → changeFrom n ≡ enter (n / 12) (n / 3 % 4)
+unfolding changeFrom call-by
+enters n e = ap (λ (a : Bool). call-by n a (eqb (n % 3) 1)) (eq-eqb (n % 3) 0 e)
+
+pub changes : (n : ℕ) → (n % 3 ≡ 0 → ⊥) → n % 3 ≡ 1 → changeFrom n ≡ change (n / 12) (n / 3 % 4)
+unfolding changeFrom call-by
+changes n d e = ap₂ (call-by n) (ne-eqb (n % 3) 0 d) (eq-eqb (n % 3) 1 e)
+
+pub withdraws : (n : ℕ) → (n % 3 ≡ 0 → ⊥) → (n % 3 ≡ 1 → ⊥) → changeFrom n ≡ withdraw (n / 12)
+unfolding changeFrom call-by
+withdraws n d e = ap₂ (call-by n) (ne-eqb (n % 3) 0 d) (ne-eqb (n % 3) 1 e)
 
 after-more : (ns : List ℕ) (n : ℕ) (roll : List ℕ)
     → bytesAfter (changesFrom (ns ++ (n ∷ []))) roll ≡ called (changeFrom n) (bytesAfter (changesFrom ns) roll)

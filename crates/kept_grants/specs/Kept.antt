@@ -6,14 +6,16 @@ use mathlib.Core.List.{List, [], _∷_}
 use Prim.Native.Nat.{ℕ, _/_, _%_, _≤_}
 use lib.Dec.{eqb}
 use Rattle.refusal.specs.Tries.{answered}
-use Rattle.histories.specs.Histories.{Change, enter, withdraw}
+use Rattle.histories.specs.Histories.{Change, enter, change, withdraw}
 use Rattle.check_call.specs.CheckCall.{callCode}
 use Rattle.issue_call.specs.IssueCall.{issueCallNumber}
 use Rattle.call_claims.specs.CallHistories.{bytesAfter, CallWithdrawn, grantGiven}
 
--- a number as a call on the roll: 2c enters contractor c, and 2c + 1 withdraws contractor c
+-- a number as a call on the roll: 12c + 3r enters contractor c with right r, one more changes their right to r, and two more withdraws them. So r is 0
+-- to 3, the two rights and two that are none
 unfoldable pub changeFrom : ℕ → Change
-changeFrom n = cond (eqb (n % 2) 0) (enter (n / 2)) (withdraw (n / 2))
+changeFrom n =
+    cond (eqb (n % 3) 0) (enter (n / 12) (n / 3 % 4)) (cond (eqb (n % 3) 1) (change (n / 12) (n / 3 % 4)) (withdraw (n / 12)))
 
 unfoldable pub changesFrom : List ℕ → List Change
 changesFrom [] = []

@@ -9,9 +9,14 @@ ghost use Rattle.kept_grants.specs.Kept.{changeFrom, changesFrom, Revoke
 fn call_change(roll: &mut [u8], call: u32)
     ensures { λ _. ⌜ now (roll .exit) ≡ called (changeFrom call) (now (roll .entry)) ⌝ }
 {
-    let contractor = call / 2;
-    if call % 2 == 0 {
-        capi::gordzila_enter(roll, contractor);
+    let contractor = call / 12;
+    let right = call / 3 % 4;
+    if call % 3 == 0 {
+        capi::gordzila_enter(roll, contractor, right);
+        return;
+    }
+    if call % 3 == 1 {
+        capi::gordzila_change_right(roll, contractor, right);
         return;
     }
     capi::gordzila_withdraw(roll, contractor);

@@ -16,7 +16,7 @@ use Rattle.refusal.proofs.Answers.{put-each, put-same, put-rest}
 use Rattle.rounds.proofs.Turned.{getD-listed}
 use Rattle.roll.specs.declared.Roll.{Roll}
 use Rattle.judging.specs.Judging.{plainTries}
-use Rattle.checking.specs.Checking.{openedGrant, countNow}
+use Rattle.checking.specs.Checking.{openedGrant, entryNow}
 use Rattle.queue_parts.specs.QueueParts.{grantsIn, grantAt}
 use Rattle.queue_parts.proofs.Answers.{grant-length}
 use Rattle.queue.specs.Queue.{queueTries, queueNumber, queueAnswers, queueOutput}
@@ -74,7 +74,7 @@ module _ (key : List ℕ) (rounds : ℕ) (roll : Roll) (grants : List ℕ) (bloc
   -- the byte for a grant, by what is tried of its plain bytes
   module _ (i : ℕ) (h : i < grantsIn (length grants)) where
     tries : List Try
-    tries = let g = grantAt grants i in plainTries (openedGrant key rounds g) (countNow key rounds roll g) block right
+    tries = let g = grantAt grants i in plainTries (openedGrant key rounds g) (entryNow key rounds roll g) block right
 
     judged : getD (queueOutput key rounds roll grants block right out) i 0 ≡ first tries
     unfolding passed tries

@@ -15,7 +15,7 @@ use Rattle.rights.specs.Rights.{isRight}
 use Rattle.grant.specs.Grants.{contractorIn}
 use Rattle.rights.proofs.Rights.{right-least}
 use Rattle.judging.specs.Judging.{inputTries, plainTries}
-use Rattle.checking.specs.Checking.{openedGrant, countNow, checkNumber}
+use Rattle.checking.specs.Checking.{openedGrant, entryNow, checkNumber}
 use Rattle.check_call.specs.CheckCall.{callTries, callCode}
 use Rattle.queue_parts.specs.QueueParts.{queueLength, grantsIn, grantAt, queueInputTries}
 use Rattle.queue.specs.Queue.{queueNumber, queueAnswers, queueOutput}
@@ -57,7 +57,7 @@ module _ (key : List ℕ) (rounds : ℕ) (roll grants : List ℕ) (block right :
         let ts = callTries key rounds roll grant block right in
         let p = openedGrant key rounds grant in
         let n : Bool → ℕ = λ b.
-        first (inputTries (length key) rounds (b && eqb (length grant) 12) right ++ plainTries p (countNow key rounds (rollOf roll) grant) block right) in
+        first (inputTries (length key) rounds (b && eqb (length grant) 12) right ++ plainTries p (entryNow key rounds (rollOf roll) grant) block right) in
         byte-of (first ts) (1000 * right + contractorIn p) (first-small 1000 ts refl) (omega (arith, right-least right right-asked))
         ∙ ap n (eq-eqb (length roll) rollLength roll-long)
 

@@ -1,4 +1,4 @@
--- What is claimed of a queue of grants: request 2, "The morning queue". A term of each type stands in proofs/Claims.antt.
+-- What is claimed of a queue of grants: request 2, "The morning queue", with 25 as request 6 has it. A term of each type stands in proofs/Claims.antt.
 use mathlib.Core.Bool.{cond}
 use mathlib.Core.Logic.{_⊎_}
 use mathlib.Core.Path.{_≡_}
@@ -55,7 +55,7 @@ Among n (m ∷ ms) = (n ≡ m) ⊎ Among n ms
 
 -- a byte is 0, or a reason that is found in the grant or on the roll; so it is never 1, 2, 3 or 7, nor 4
 pub record VerdictByte (n : ℕ) : Type 0 where
-  pub one-of : Among n (0 ∷ 8 ∷ 9 ∷ 10 ∷ 20 ∷ 23 ∷ [])
+  pub one-of : Among n (0 ∷ 8 ∷ 9 ∷ 10 ∷ 20 ∷ 23 ∷ 25 ∷ [])
   pub none-of : Among n (1 ∷ 2 ∷ 3 ∷ 4 ∷ 7 ∷ []) → ⊥
 
 unfoldable pub BytesAreVerdicts : Type 0
@@ -75,7 +75,7 @@ QueueAfterWithdrawal = (roll : Roll) → IsRoll roll → (contractor : ℕ) → 
     → (key : List ℕ) (rounds : ℕ) (grant : List ℕ) → contractorIn (openedGrant key rounds grant) ≡ contractor
     → OpensNowhere key rounds (withdrawnRoll roll contractor) grant
 
--- from then on, whatever is entered and withdrawn, re-entering the contractor included: every grant that was issued before it
+-- from then on, whatever is entered, withdrawn and changed, re-entering the contractor included: every grant that was issued before it
 unfoldable pub QueueRevoked : Type 0
 QueueRevoked = (key : List ℕ) (rounds : ℕ) (roll : Roll) (contractor block right : ℕ) (out : List ℕ)
     → Issued key rounds roll contractor block right out → IsRoll roll
@@ -131,7 +131,7 @@ CallQueueAfterWithdrawal = (roll : List ℕ) → AreBytes roll → (contractor :
     → (key : List ℕ) (rounds : ℕ) (grant : List ℕ) → contractorIn (openedGrant key rounds grant) ≡ contractor
     → CallOpensNowhere key rounds (withdrawCallRoll roll contractor) grant
 
--- from then on, whatever gordzila_enter and gordzila_withdraw make of the roll: every grant that gordzila_issue wrote before it
+-- from then on, whatever gordzila_enter, gordzila_change_right and gordzila_withdraw make of the roll: every grant that gordzila_issue wrote before it
 unfoldable pub CallQueueRevoked : Type 0
 CallQueueRevoked = (key : List ℕ) (rounds : ℕ) (roll : List ℕ) (contractor block right : ℕ) (out : List ℕ)
     → CallIssued key rounds roll contractor block right out

@@ -9,4 +9,6 @@ use Rattle.roll_changes.specs.KnownAnswers.{knownAnswers}
 
 pub known-answers : Hold knownAnswers
 unfolding knownAnswers first answered emptyRoll countOf figureOf inStanding withEntry enteredRoll withdrawnRoll changedRoll
-known-answers = refl & refl & refl & refl & refl & refl & tt
+known-answers =
+    refl & refl & refl & refl & refl & refl & refl & refl & refl & refl & refl & refl & refl & refl & refl & refl
+    & refl & refl & refl & refl & refl & refl & refl & refl & refl & refl & refl & refl & refl & refl & refl & tt

@@ -29,8 +29,58 @@ changeOf c right count figure =
 
 unfoldable pub knownAnswers : List Case
 knownAnswers =
+    -- changed enter 7 1 0 1
+    (enterOf 7 1 0 1 is (0 ∷ 1 ∷ 1 ∷ []))
+    -- changed enter 7 2 0 1
+    ∷ (enterOf 7 2 0 1 is (0 ∷ 1 ∷ 2 ∷ []))
+    -- changed enter 7 1 2 255
+    ∷ (enterOf 7 1 2 255 is (0 ∷ 3 ∷ 1 ∷ []))
+    -- changed enter 7 2 2 255
+    ∷ (enterOf 7 2 2 255 is (0 ∷ 3 ∷ 2 ∷ []))
+    -- changed enter 7 0 2 255
+    ∷ (enterOf 7 0 2 255 is (7 ∷ 2 ∷ 255 ∷ []))
+    -- changed enter 7 3 2 255
+    ∷ (enterOf 7 3 2 255 is (7 ∷ 2 ∷ 255 ∷ []))
+    -- changed enter 7 2 1 255
+    ∷ (enterOf 7 2 1 255 is (21 ∷ 1 ∷ 255 ∷ []))
+    -- changed enter 7 2 65534 3
+    ∷ (enterOf 7 2 65534 3 is (22 ∷ 65534 ∷ 3 ∷ []))
+    -- changed enter 7 2 65535 3
+    ∷ (enterOf 7 2 65535 3 is (22 ∷ 65535 ∷ 3 ∷ []))
+    -- changed right 200 1 1 1
+    ∷ (changeOf 200 1 1 1 is (0 ∷ 1 ∷ 1 ∷ []))
+    -- changed right 200 2 1 1
+    ∷ (changeOf 200 2 1 1 is (0 ∷ 1 ∷ 2 ∷ []))
+    -- changed right 200 1 1 2
+    ∷ (changeOf 200 1 1 2 is (0 ∷ 1 ∷ 1 ∷ []))
+    -- changed right 200 2 1 2
+    ∷ (changeOf 200 2 1 2 is (0 ∷ 1 ∷ 2 ∷ []))
+    -- changed right 200 1 1 255
+    ∷ (changeOf 200 1 1 255 is (0 ∷ 1 ∷ 1 ∷ []))
+    -- changed right 200 2 1 255
+    ∷ (changeOf 200 2 1 255 is (0 ∷ 1 ∷ 2 ∷ []))
+    -- changed right 200 2 65533 1
+    ∷ (changeOf 200 2 65533 1 is (0 ∷ 65533 ∷ 2 ∷ []))
+    -- changed right 200 0 1 3
+    ∷ (changeOf 200 0 1 3 is (7 ∷ 1 ∷ 3 ∷ []))
+    -- changed right 200 3 1 2
+    ∷ (changeOf 200 3 1 2 is (7 ∷ 1 ∷ 2 ∷ []))
+    -- changed right 200 2 0 3
+    ∷ (changeOf 200 2 0 3 is (20 ∷ 0 ∷ 3 ∷ []))
+    -- changed right 200 2 2 3
+    ∷ (changeOf 200 2 2 3 is (20 ∷ 2 ∷ 3 ∷ []))
+    -- changed right 200 2 65535 3
+    ∷ (changeOf 200 2 65535 3 is (20 ∷ 65535 ∷ 3 ∷ []))
+    -- changed withdraw 1 - 1 2
+    ∷ (withdrawOf 1 1 2 is (0 ∷ 2 ∷ 1 ∷ []))
+    -- changed withdraw 1 - 1 255
+    ∷ (withdrawOf 1 1 255 is (0 ∷ 2 ∷ 1 ∷ []))
+    -- changed withdraw 1 - 65533 2
+    ∷ (withdrawOf 1 65533 2 is (0 ∷ 65534 ∷ 1 ∷ []))
+    -- changed withdraw 1 - 2 2
+    ∷ (withdrawOf 1 2 2 is (20 ∷ 2 ∷ 2 ∷ []))
     -- order enter 6 7
-    ((enterNumber emptyRoll 0 3 ∷ []) is (6 ∷ []))
+    ∷ ((enterNumber emptyRoll 0 3 ∷ []) is (6 ∷ []))
     -- order enter 7 21
     ∷ ((enterNumber (rollWith 7 1 1) 7 3 ∷ []) is (7 ∷ []))
     -- order enter 7 22

@@ -1,0 +1,132 @@
+-- From what is claimed of checks on a roll by value to queues, and to the C calls on a roll's bytes.
+use mathlib.Core.Path.{_≡_, refl, sym, ap, _∙_, subst, subst⁻¹}
+use mathlib.Core.Bool.{_&&_}
+use mathlib.Core.List.{List, [], _∷_}
+use Prim.Native.Nat.{ℕ, _+_, _*_, _≤_}
+use native.Mathlib.Omega.{arith}
+use lib.Dec.{eqb, lit<}
+use lib.ListN.{length, getD}
+use borrow.Author.Tests.{eqb-true}
+use Rattle.basics.specs.Bytes.{AreBytes}
+use Rattle.refusal.specs.Tries.{first, answered}
+use Rattle.refusal.proofs.Tries.{none-given}
+use Rattle.refusal.proofs.Ladder.{all-pass}
+use Rattle.rights.proofs.Rights.{right-least}
+use Rattle.roll.specs.declared.Roll.{Roll}
+use Rattle.roll.specs.Roll.{countOf, figureOf}
+use Rattle.roll_changes.specs.Changes.{changeTries, changeNumber, changedRoll}
+use Rattle.roll_bytes.specs.RollBytes.{rollLength, rollOf}
+use Rattle.histories.specs.Histories.{Change, change, changed, rollAfter, Withdrawn, Raised, IsRoll}
+use Rattle.grant.specs.Grants.{contractorIn}
+use Rattle.issuing.specs.Issuing.{issueTries}
+use Rattle.checking.specs.Checking.{openedGrant, checkNumber}
+use Rattle.revocation.specs.Claims.{SameCheck}
+use Rattle.demotion.specs.Claims.{NoOverwriting, Above}
+use Rattle.demotion.proofs.Demoted.{never-overwrites, above, same-count, same-reading, raised-check, twenty-five}
+use Rattle.check_call.specs.CheckCall.{callTries, callCode}
+use Rattle.issue_call.specs.IssueCall.{issueCallTries}
+use Rattle.roll_calls.specs.RollCalls.{changeCallTries, changeCallNumber, changeCallRoll}
+use Rattle.call_claims.specs.CallHistories.{called, bytesAfter, CallWithdrawn, CallRaised}
+use Rattle.call_claims.specs.Claims.{Holds}
+use Rattle.call_claims.proofs.Opens.{refused-with, is-check, call-passed, call-refuses, call-refused}
+use Rattle.call_claims.proofs.Stored.{is-roll, passes-roll, call-holds, after-holds, withdrawn-called, raised-called}
+use Rattle.queue_claims.proofs.Bytes.{answers}
+use Rattle.queue_claims.proofs.Calls.{same-queue, roll-long}
+use Rattle.call_demotion.specs.Claims.{QueuesNoOverwriting, CallNoOverwriting}
+
+-- ---- a queue
+pub queues : (roll : Roll) (c : ℕ) → NoOverwriting roll c → QueuesNoOverwriting roll c
+queues roll c none key rounds grants block out e i h named z =
+    none .opens key rounds _ block named (sym (answers key rounds roll grants block 2 out e .each i h) ∙ z)
+
+-- ---- a roll's bytes
+pub on-bytes : (roll : List ℕ) (c : ℕ) → NoOverwriting (rollOf roll) c → CallNoOverwriting roll c
+on-bytes roll c none = record {
+  refused = λ key rounds grant block named. call-refuses key rounds roll grant block 2 (none .opens key rounds grant block named);
+  queued = λ key rounds grants block out e i h named z.
+      let s = same-queue key rounds roll grants block 2 out (roll-long key rounds roll grants block 2 out e) in
+      queues (rollOf roll) c none key rounds grants block out (sym (s .number) ∙ e) i h named (sym (ap (λ (l : List ℕ). getD l i 0) (s .output)) ∙ z);
+  issued = λ key rounds block out e.
+      let p = all-pass (issueCallTries key rounds roll c block 2 out) refl e in
+      none .issued key rounds block out (none-given (issueTries key rounds (rollOf roll) c block 2 out) (p .0, (p .1 .0, p .1 .1 .1)));
+}
+
+-- two rolls' bytes on which a check is the same
+same-code : (key : List ℕ) (rounds : ℕ) (roll other grant : List ℕ) (block right : ℕ) → length roll ≡ rollLength → length other ≡ rollLength
+    → SameCheck key rounds (rollOf roll) (rollOf other) grant block right
+    → callCode key rounds other grant block right ≡ callCode key rounds roll grant block right
+same-code key rounds roll other grant block right l m s =
+    is-check key rounds other grant block right m
+    ∙ (λ j. answered (s .number j) (1000 * s .answers-right j + s .answers-contractor j) (s .number j))
+    ∙ sym (is-check key rounds roll grant block right l)
+
+-- ---- a demotion that is accepted
+module _ (roll : List ℕ) (small : AreBytes roll) (c : ℕ) (accepted : changeCallNumber roll c 1 ≡ 0) where
+  long : length roll ≡ rollLength
+  long = eqb-true _ _ (all-pass (changeCallTries roll c 1) refl accepted .0)
+
+  on-roll : changeNumber (rollOf roll) c 1 ≡ 0
+  on-roll = sym (passes-roll roll long (changeTries c 1 (countOf (rollOf roll) c))) ∙ accepted
+
+  is : IsRoll (rollOf roll)
+  is = is-roll roll small long
+
+  -- the bytes after it hold the roll after it, and so do those after more calls
+  low : Holds (changeCallRoll roll c 1) (changedRoll (rollOf roll) c 1)
+  unfolding called changed
+  low = call-holds (change c 1) roll small long
+
+  after : (hs : List Change) → Holds (bytesAfter hs (changeCallRoll roll c 1)) (rollAfter hs (changedRoll (rollOf roll) c 1))
+  after hs =
+      let h = after-holds hs (changeCallRoll roll c 1) (low .small) (low .long) in
+      record { small = h .small; long = h .long; read = h .read ∙ ap (rollAfter hs) (low .read) }
+
+  pub call-never-overwrites : (hs : List Change) → (CallRaised c hs (changeCallRoll roll c 1) → ⊥)
+      → CallNoOverwriting (bytesAfter hs (changeCallRoll roll c 1)) c
+  call-never-overwrites hs n =
+      on-bytes (bytesAfter hs (changeCallRoll roll c 1)) c
+      (subst⁻¹ (λ (r : Roll). NoOverwriting r c) (after hs .read)
+      (never-overwrites (rollOf roll) is c on-roll hs
+      (λ w. n (raised-called (changeCallRoll roll c 1) (low .small) (low .long) (subst⁻¹ (λ (r : Roll). Raised c hs r) (low .read) w)))))
+
+  module _ (key : List ℕ) (rounds : ℕ) (grant : List ℕ) (block : ℕ) (named : contractorIn (openedGrant key rounds grant) ≡ c) where
+    -- a check on the roll after some calls is one on the bytes after them
+    as-read : (right : ℕ) (bytes : List ℕ) (roll' : Roll) → Holds bytes roll' → SameCheck key rounds (rollOf roll) roll' grant block right
+        → callCode key rounds bytes grant block right ≡ callCode key rounds roll grant block right
+    as-read right bytes roll' h s =
+        same-code key rounds roll bytes grant block right long (h .long)
+        (subst⁻¹ (λ (r : Roll). SameCheck key rounds (rollOf roll) r grant block right) (h .read) s)
+
+    pub call-above : 1000 ≤ callCode key rounds roll grant block 2 → callCode key rounds (changeCallRoll roll c 1) grant block 2 ≡ 25
+    call-above h =
+        let z = call-passed key rounds roll grant block 2 h .1 in
+        let e = above (rollOf roll) is c on-roll key rounds grant block named z in
+        call-refused key rounds (changeCallRoll roll c 1) grant block 2 (low .long) 25 (lit< tt)
+        (ap (λ (r : Roll). checkNumber key rounds r grant block 2) (low .read) ∙ e)
+
+    pub call-reads : (hs : List Change) → (CallWithdrawn c hs (changeCallRoll roll c 1) → ⊥)
+        → callCode key rounds (bytesAfter hs (changeCallRoll roll c 1)) grant block 1 ≡ callCode key rounds roll grant block 1
+    call-reads hs n =
+        let other = rollAfter hs (changedRoll (rollOf roll) c 1) in
+        let count = same-count (rollOf roll) is c on-roll hs
+        (λ w. n (withdrawn-called (changeCallRoll roll c 1) (low .small) (low .long) (subst⁻¹ (λ (r : Roll). Withdrawn c hs r) (low .read) w))) in
+        as-read 1 (bytesAfter hs (changeCallRoll roll c 1)) other (after hs)
+        (same-reading key rounds (rollOf roll) other grant block (subst (λ (d : ℕ). countOf other d ≡ countOf (rollOf roll) d) (sym named) count))
+
+    pub call-raised : figureOf (rollOf roll) c ≡ 2 → (right : ℕ)
+        → callCode key rounds (bytesAfter (change c 1 ∷ change c 2 ∷ []) roll) grant block right ≡ callCode key rounds roll grant block right
+    unfolding rollAfter changed
+    call-raised two right =
+        as-read right (bytesAfter (change c 1 ∷ change c 2 ∷ []) roll) _ (after-holds (change c 1 ∷ change c 2 ∷ []) roll small long)
+        (raised-check (rollOf roll) is c on-roll key rounds grant block named two right)
+
+-- ---- when 25 is answered
+pub call-twenty-five : (key : List ℕ) (rounds : ℕ) (roll grant : List ℕ) (block right : ℕ)
+    → callCode key rounds roll grant block right ≡ 25 → Above key rounds (rollOf roll) grant right
+unfolding callCode
+call-twenty-five key rounds roll grant block right e =
+    let ts = callTries key rounds roll grant block right in
+    let lengths = eqb (length roll) rollLength && eqb (length grant) 12 in
+    twenty-five key rounds lengths (rollOf roll) grant block right
+    (refused-with (first ts) (1000 * right + contractorIn (openedGrant key rounds grant)) 25
+    (λ z. omega (arith, right-least right (all-pass ts refl z .1 .1 .1 .0))) e)
