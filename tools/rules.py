@@ -69,14 +69,20 @@ def stands(count):
     return count % 2 == 1 and count < 65535
 
 
-def plain_reasons(now, right, contractor, written, block, granted, mark):
-    """What holds of a grant's plain bytes, asked for size block 300 and a right, where its contractor's count is now."""
+def above_highest(right, figure):
+    """Whether a right asked for is above the highest that a stored figure means: every figure but 2 means reading only."""
+    return right == 2 and figure != 2
+
+
+def plain_reasons(now, figure, right, contractor, written, block, granted, mark):
+    """What holds of a grant's plain bytes, asked for size block 300 and a right, where its contractor has the count now and the figure."""
     return {
         8: mark != MARK or not on_roll(contractor) or granted not in (1, 2),
         9: block != 300,
         10: granted == 1 and right == 2,
         20: not stands(now),
         23: written != now,
+        25: above_highest(right, figure),
     }
 
 

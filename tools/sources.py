@@ -18,7 +18,7 @@ CALLS = {
     "holder_steps": ["forward", "back", "subkey"],
     "holder_walk": ["walk"],
     "roll": ["empty"],
-    "roll_changes": ["enter", "withdraw"],
+    "roll_changes": ["enter", "withdraw", "change_right"],
     "issuing": ["issue"],
     "checking": ["check"],
     "queue": ["check"],

@@ -48,7 +48,7 @@ module _ (roll : Roll) (is : IsRoll roll) (c : ℕ) (accepted : changeNumber rol
   unfolding changed
   low-roll = changed-roll (change c 1) roll is
 
-  pub low-entry : entryOf (changedRoll roll c 1) c ≡ changedEntry 1 (countOf roll c)
+  pub low-entry : entryOf (changedRoll roll c 1) c ≡ changedEntry 1 (entryOf roll c)
   unfolding changed
   low-entry = changed-own (change c 1) roll is accepted
 

@@ -2,7 +2,6 @@
 // no leave to write was left alone. The rows have each reason for refusing alone, each two that can hold together, and both sides of every
 // limit (tools/expected-grants).
 
-use rights::Right;
 use grant::Verdict;
 use refusal::Outcome;
 use roll::Roll;
@@ -20,20 +19,13 @@ fn outcome(o: Outcome) -> u32 {
     n
 }
 
-fn right_number(r: Right) -> u64 {
-    match r {
-        Right::Reading => 1,
-        Right::Overwriting => 2,
-    }
-}
-
 fn verdict(v: Verdict) {
     match v {
         Verdict::Opens(g) => {
             let right = g.right;
             printing::number(0);
             printing::number(g.contractor as u64);
-            printing::number(right_number(right));
+            printing::number(rights::right_number(right) as u64);
         }
         Verdict::Refused(reason) => {
             printing::number(refusal::reason_number(reason) as u64);
@@ -43,25 +35,38 @@ fn verdict(v: Verdict) {
     printing::newline();
 }
 
-// A roll on which contractors 1, 2 and 200 have the count that is read, and every other none.
+// A roll on which contractors 1, 2 and 200 have the count and the figure that are read, and everyone else those of an empty one.
 fn echo_roll() -> Roll {
     let count = (printing::echo() % 65536) as u16;
+    let figure = (printing::echo() % 256) as u8;
     let mut counts = [0u16; 200];
     counts[0] = count;
     counts[1] = count;
     counts[199] = count;
-    Roll { counts }
+    let mut rights = [1u8; 200];
+    rights[0] = figure;
+    rights[1] = figure;
+    rights[199] = figure;
+    Roll { counts, rights }
 }
 
-// The counts of contractors 1, 2 and 200 after a call.
+fn figure(n: u8) {
+    printing::number(n as u64);
+}
+
+// The counts of contractors 1, 2 and 200 after a call, and then their figures.
 fn changed(r: Changed) {
     let o = r.outcome;
     let after = r.roll;
     let counts = after.counts;
+    let rights = after.rights;
     outcome(o);
     count(counts[0]);
     count(counts[1]);
     count(counts[199]);
+    figure(rights[0]);
+    figure(rights[1]);
+    figure(rights[199]);
     printing::newline();
 }
 
@@ -69,7 +74,16 @@ fn enter_line() {
     printing::word(b"enter");
     let roll = echo_roll();
     let c = printing::echo_u32();
-    changed(roll_changes::enter(roll, c));
+    let right = printing::echo_u32();
+    changed(roll_changes::enter(roll, c, right));
+}
+
+fn right_line() {
+    printing::word(b"right");
+    let roll = echo_roll();
+    let c = printing::echo_u32();
+    let right = printing::echo_u32();
+    changed(roll_changes::change_right(roll, c, right));
 }
 
 fn withdraw_line() {
@@ -156,8 +170,10 @@ fn line(call: u64) {
     if call == 1 {
         enter_line();
     } else if call == 2 {
-        withdraw_line();
+        right_line();
     } else if call == 3 {
+        withdraw_line();
+    } else if call == 4 {
         issue_line();
     } else {
         check_line();

@@ -1,7 +1,7 @@
-// Lives of grants: a contractor is entered, a grant issued, opened, refused where it should be, and refused for ever after the contractor's
-// withdrawal. Prints each call's answer in the format of the independent program's `grants` (reference/README.md).
+// Lives of grants: a contractor is entered, a grant issued, opened, refused where it should be, refused for overwriting while the contractor is
+// demoted, and refused for ever after the contractor's withdrawal. Prints each call's answer in the format of the independent program's `grants`
+// (reference/README.md).
 
-use rights::Right;
 use grant::Verdict;
 use refusal::Outcome;
 use roll::Roll;
@@ -15,6 +15,12 @@ pub struct Life {
     pub right: u32,
 }
 
+// A roll, and a grant that was issued on one before it.
+pub struct Kept {
+    pub roll: Roll,
+    pub grant: [u8; 12],
+}
+
 fn number(n: u32) {
     printing::space();
     printing::decimal(n as u64);
@@ -26,20 +32,13 @@ fn outcome(o: Outcome) -> u32 {
     n
 }
 
-fn right_number(r: Right) -> u32 {
-    match r {
-        Right::Reading => 1,
-        Right::Overwriting => 2,
-    }
-}
-
 fn verdict(v: Verdict) {
     match v {
         Verdict::Opens(g) => {
             let right = g.right;
             number(0);
             number(g.contractor);
-            number(right_number(right));
+            number(rights::right_number(right));
         }
         Verdict::Refused(reason) => {
             number(refusal::reason_number(reason));
@@ -50,27 +49,32 @@ fn verdict(v: Verdict) {
     printing::newline();
 }
 
-fn enter_line(l: Life, roll: Roll) -> Roll {
-    let r: Changed = roll_changes::enter(roll, l.contractor);
+fn changed(r: Changed) -> Roll {
     let o = r.outcome;
     let after = r.roll;
-    printing::word(b"enter");
     outcome(o);
     printing::newline();
     after
+}
+
+fn enter_line(l: Life, roll: Roll) -> Roll {
+    printing::word(b"enter");
+    number(l.right);
+    changed(roll_changes::enter(roll, l.contractor, l.right))
+}
+
+fn right_line(l: Life, roll: Roll, highest: u32) -> Roll {
+    printing::word(b"right");
+    number(highest);
+    changed(roll_changes::change_right(roll, l.contractor, highest))
 }
 
 fn withdraw_line(l: Life, roll: Roll) -> Roll {
-    let r: Changed = roll_changes::withdraw(roll, l.contractor);
-    let o = r.outcome;
-    let after = r.roll;
     printing::word(b"withdraw");
-    outcome(o);
-    printing::newline();
-    after
+    changed(roll_changes::withdraw(roll, l.contractor))
 }
 
-fn issue_line(key: &[u8], l: Life, roll: Roll) -> [u8; 12] {
+fn issue_line(key: &[u8], l: Life, roll: Roll, asked: u32) -> [u8; 12] {
     let mut out = [0u8; 12];
     let o = issuing::issue(
         key,
@@ -78,10 +82,11 @@ fn issue_line(key: &[u8], l: Life, roll: Roll) -> [u8; 12] {
         roll,
         l.contractor,
         l.size_block,
-        l.right,
+        asked,
         &mut out,
     );
     printing::word(b"issue");
+    number(asked);
     if outcome(o) == 0 {
         printing::space();
         printing::hex_bytes(&out);
@@ -90,19 +95,18 @@ fn issue_line(key: &[u8], l: Life, roll: Roll) -> [u8; 12] {
     out
 }
 
-fn check_line(key: &[u8], l: Life, roll: Roll, grant: [u8; 12]) {
+// A check for a right, for the life's size block.
+fn check_line(key: &[u8], l: Life, roll: Roll, grant: [u8; 12], asked: u32) {
     printing::word(b"check");
-    verdict(checking::check(key, l.rounds, roll, &grant, l.size_block, l.right));
+    number(asked);
+    verdict(checking::check(key, l.rounds, roll, &grant, l.size_block, asked));
 }
 
-// The same grant for the next size block, and for the other right.
-fn other_lines(key: &[u8], l: Life, roll: Roll, grant: [u8; 12]) {
+fn next_block_line(key: &[u8], l: Life, roll: Roll, grant: [u8; 12]) {
     let next = ((l.size_block as u64 + 1) % 4294967296) as u32;
-    let other = if l.right == 1 { 2 } else { 1 };
     printing::word(b"check");
+    number(l.right);
     verdict(checking::check(key, l.rounds, roll, &grant, next, l.right));
-    printing::word(b"check");
-    verdict(checking::check(key, l.rounds, roll, &grant, l.size_block, other));
 }
 
 // A grant with one bit of one byte changed.
@@ -133,25 +137,59 @@ fn head_line(key: &[u8], l: Life) {
     printing::newline();
 }
 
-// From the first issue, which is refused, to the contractor's second standing.
-fn life_lines(key: &[u8], l: Life) {
-    let r0 = roll::empty();
+// Demoted, raised and demoted again: what becomes of a grant from before, and of one that is issued while the right is overwriting. The
+// roll that is left has reading as the highest right.
+fn demotion_lines(key: &[u8], l: Life, roll: Roll, first: [u8; 12]) -> Kept {
+    let low = right_line(l, roll, 1);
+    check_line(key, l, low, first, 2);
+    check_line(key, l, low, first, 1);
+    issue_line(key, l, low, 2);
+    let high = right_line(l, low, 2);
+    check_line(key, l, high, first, l.right);
+    let grant = issue_line(key, l, high, 2);
+    check_line(key, l, high, grant, 2);
+    let roll = right_line(l, high, 1);
+    check_line(key, l, roll, grant, 2);
+    check_line(key, l, roll, grant, 1);
+    Kept { roll, grant }
+}
+
+// From the first issue, which is refused, to the contractor's first grant.
+fn first_lines(key: &[u8], l: Life) -> Kept {
+    let empty = roll::empty();
     head_line(key, l);
-    issue_line(key, l, r0);
-    let r1 = enter_line(l, r0);
-    let first = issue_line(key, l, r1);
-    check_line(key, l, r1, first);
-    other_lines(key, l, r1, first);
+    issue_line(key, l, empty, l.right);
+    let refused = right_line(l, empty, 2);
+    let roll = enter_line(l, refused);
+    let grant = issue_line(key, l, roll, l.right);
+    let other = if l.right == 1 { 2 } else { 1 };
+    check_line(key, l, roll, grant, l.right);
+    next_block_line(key, l, roll, grant);
+    check_line(key, l, roll, grant, other);
+    issue_line(key, l, roll, other);
+    Kept { roll, grant }
+}
+
+// And on to the contractor's second standing.
+fn life_lines(key: &[u8], l: Life) {
+    let started = first_lines(key, l);
+    let first = started.grant;
+    let low = demotion_lines(key, l, started.roll, first);
+    let high = low.grant;
+    let r1 = right_line(l, low.roll, 3);
     let r2 = enter_line(l, r1);
     let r3 = withdraw_line(l, r2);
-    check_line(key, l, r3, first);
+    check_line(key, l, r3, first, l.right);
     let r4 = withdraw_line(l, r3);
-    let r5 = enter_line(l, r4);
-    check_line(key, l, r5, first);
-    let second = issue_line(key, l, r5);
-    check_line(key, l, r5, second);
-    check_line(key, l, r5, first);
-    damaged_lines(key, l, r5, second);
+    let r5 = right_line(l, r4, 1);
+    let r6 = enter_line(l, r5);
+    check_line(key, l, r6, first, l.right);
+    check_line(key, l, r6, high, 2);
+    let second = issue_line(key, l, r6, l.right);
+    check_line(key, l, r6, second, l.right);
+    check_line(key, l, r6, first, l.right);
+    check_line(key, l, r6, second, 2);
+    damaged_lines(key, l, r6, second);
 }
 
 // A number of four bytes, big end first.

@@ -53,19 +53,19 @@ changing roll c right e =
     let h = all-pass (changeTries c right (countOf roll c)) refl e in
     record { contractor = h .0; given = h .1 .0; standing = h .1 .1 .0 }
 
--- ---- what it writes: the entry, from the contractor's count
-abbrev pub newEntry : Change → ℕ → Entry
-newEntry (enter c r) n = enteredEntry r n
-newEntry (change c r) n = changedEntry r n
-newEntry (withdraw c) n = withdrawnEntry n
+-- ---- what becomes of the contractor's entry
+abbrev pub newEntry : Change → Entry → Entry
+newEntry (enter c r) e = enteredEntry r e
+newEntry (change c r) e = changedEntry r e
+newEntry (withdraw c) e = withdrawnEntry e
 
-pub record Writes (h : Change) (n : ℕ) : Type 0 where
+pub record Writes (h : Change) (e : Entry) : Type 0 where
   pub contractor : isContractor (contractorOf h) ≡ true
-  pub least : n ≤ newEntry h n .count
-  pub most : newEntry h n .count < 65536
-  pub byte : newEntry h n .figure < 256
+  pub least : e .count ≤ newEntry h e .count
+  pub most : newEntry h e .count < 65536
+  pub byte : newEntry h e .figure < 256
 
-pub writes : (h : Change) (roll : Roll) → numberOf h roll ≡ 0 → Writes h (countOf roll (contractorOf h))
+pub writes : (h : Change) (roll : Roll) → numberOf h roll ≡ 0 → Writes h (entryOf roll (contractorOf h))
 writes (enter c r) roll e =
     let w = entering roll c r e in
     record { contractor = w .contractor; least = omega arith; most = omega (arith, w .below); byte = omega (arith, right-small r (w .given)) }
@@ -80,7 +80,7 @@ writes (withdraw c) roll e =
 
 -- ---- the roll after it
 abbrev pub written-roll : Change → Roll → Roll
-written-roll h roll = withEntry roll (contractorOf h) (newEntry h (countOf roll (contractorOf h)))
+written-roll h roll = withEntry roll (contractorOf h) (newEntry h (entryOf roll (contractorOf h)))
 
 pub changed-is : (h : Change) (roll : Roll) → changed h roll ≡ answered (numberOf h roll) (written-roll h roll) roll
 unfolding changed enteredRoll withdrawnRoll changedRoll
@@ -112,7 +112,7 @@ changed-other h roll d n =
 
 -- the contractor's own is the one that is written
 pub changed-own : (h : Change) (roll : Roll) → IsRoll roll → numberOf h roll ≡ 0
-    → entryOf (changed h roll) (contractorOf h) ≡ newEntry h (countOf roll (contractorOf h))
+    → entryOf (changed h roll) (contractorOf h) ≡ newEntry h (entryOf roll (contractorOf h))
 changed-own h roll r e =
     ap (λ (x : Roll). entryOf x (contractorOf h)) (changed-done h roll e)
     ∙ entry-own roll (contractorOf h) (writes h roll e .contractor) _ (r .many) (r .rights-many)

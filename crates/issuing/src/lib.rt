@@ -21,20 +21,22 @@ use roll::Entry;
 use roll::Roll;
 
 // What is tried after settings and lengths: the room for the grant, the contractor, the right, the standing, and the right against the highest.
-pub fn try_issue(
-    prior: Outcome,
-    room: usize,
-    contractor: u32,
-    right: u32,
-    entry: Entry,
-) -> Outcome
+pub fn try_issue(prior: Outcome, room: usize, contractor: u32, right: u32, entry: Entry) -> Outcome
     ensures { λ r. ⌜ outcomeNumber r ≡ after (outcomeNumber prior) (wantedTries room contractor right «entry») ⌝ }
 {
     let fits = unless(prior, Reason::OutputTooShort, 12 <= room);
     let known = unless(fits, Reason::Contractor, roll::is_contractor(contractor));
     let asked = unless(known, Reason::UnknownRight, is_right(right));
-    let stands = unless(asked, Reason::NotInStanding, roll::is_in_standing(entry.count));
-    unless(stands, Reason::AboveHighest, within_highest(right, entry.figure))
+    let stands = unless(
+        asked,
+        Reason::NotInStanding,
+        roll::is_in_standing(entry.count),
+    );
+    unless(
+        stands,
+        Reason::AboveHighest,
+        within_highest(right, entry.figure),
+    )
 }
 
 // A grant's twelve bytes, enciphered to the output.

@@ -43,9 +43,17 @@ pub fn try_asked(prior: Outcome, p: &[u8; 12], size_block: u32, right: u32) -> O
 pub fn try_standing(prior: Outcome, p: &[u8; 12], entry: Entry, right: u32) -> Outcome
     ensures { λ r. ⌜ outcomeNumber r ≡ after (outcomeNumber prior) (standingTries (now (p .entry)) «entry» right) ⌝ }
 {
-    let stands = unless(prior, Reason::NotInStanding, roll::is_in_standing(entry.count));
+    let stands = unless(
+        prior,
+        Reason::NotInStanding,
+        roll::is_in_standing(entry.count),
+    );
     let current = unless(stands, Reason::OtherCount, count_in(p) == entry.count);
-    unless(current, Reason::AboveHighest, within_highest(right, entry.figure))
+    unless(
+        current,
+        Reason::AboveHighest,
+        within_highest(right, entry.figure),
+    )
 }
 
 // The verdict on a grant's plain bytes, where the roll has this entry for its contractor.

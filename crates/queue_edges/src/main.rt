@@ -30,7 +30,7 @@ fn plain(contractor: u8, count: u8, block: usize, right: u8) -> [u8; 12] {
     ]
 }
 
-// Seven kinds of grants, of which two open for overwriting and three for reading.
+// Nine kinds of grants, of which two open for overwriting and four for reading.
 fn kind(n: usize) -> [u8; 12] {
     if n == 0 {
         plain(1, 1, 300, 2)
@@ -44,8 +44,12 @@ fn kind(n: usize) -> [u8; 12] {
         plain(2, 2, 300, 2)
     } else if n == 5 {
         plain(3, 1, 300, 2)
-    } else {
+    } else if n == 6 {
         plain(3, 3, 300, 2)
+    } else if n == 7 {
+        plain(5, 5, 300, 2)
+    } else {
+        plain(5, 3, 300, 2)
     }
 }
 
@@ -56,19 +60,25 @@ fn grants() -> [u8; 780] {
     let mut i: usize = 0;
     while i < GRANTS {
         let at = 12 * i;
-        cipher::encipher(&key, 10, &kind(i % 7), &mut out[at..at + 12]);
+        cipher::encipher(&key, 10, &kind(i % 9), &mut out[at..at + 12]);
         i += 1;
     }
     out
 }
 
-// A roll on which contractors 1, 2 and 3 have their numbers as counts, and every other none.
+// A roll on which contractors 1, 2, 3 and 5 have their numbers as counts, and everyone else none. Contractors 1 and 3 may overwrite, and 5 has a
+// figure that stands for no right.
 fn roll() -> Roll {
     let mut counts = [0u16; 200];
     counts[0] = 1;
     counts[1] = 2;
     counts[2] = 3;
-    Roll { counts }
+    counts[4] = 5;
+    let mut rights = [1u8; 200];
+    rights[0] = 2;
+    rights[2] = 2;
+    rights[4] = 3;
+    Roll { counts, rights }
 }
 
 fn line(grants: &[u8; 780]) {

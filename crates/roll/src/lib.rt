@@ -38,7 +38,10 @@ pub fn entry_of(roll: Roll, c: u32) -> Entry
     ensures { λ r. ⌜ r ≡ entryOf roll c ⌝ }
 {
     if !is_contractor(c) {
-        return Entry { count: 0, figure: 0 };
+        return Entry {
+            count: 0,
+            figure: 0,
+        };
     }
     let counts = roll.counts;
     let rights = roll.rights;

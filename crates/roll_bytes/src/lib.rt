@@ -57,7 +57,10 @@ pub fn entry_in(bytes: &[u8], c: u32) -> Entry
     ensures { λ r. ⌜ r ≡ entryOf (rollOf (now (bytes .entry))) c ⌝ }
 {
     if !is_contractor(c) {
-        return Entry { count: 0, figure: 0 };
+        return Entry {
+            count: 0,
+            figure: 0,
+        };
     }
     Entry {
         count: count_in(bytes, c),

@@ -37,7 +37,7 @@ pub fn enter(roll: &mut [u8], contractor: u32, right: u32) -> u32
     if refusal::is_refused(tried) {
         return refusal::outcome_number(tried);
     }
-    write_entry(roll, contractor, roll_changes::entered_entry(right, entry.count));
+    write_entry(roll, contractor, roll_changes::entered_entry(right, entry));
     0
 }
 
@@ -52,7 +52,7 @@ pub fn withdraw(roll: &mut [u8], contractor: u32) -> u32
     if refusal::is_refused(tried) {
         return refusal::outcome_number(tried);
     }
-    write_entry(roll, contractor, roll_changes::withdrawn_entry(entry.count));
+    write_entry(roll, contractor, roll_changes::withdrawn_entry(entry));
     0
 }
 
@@ -67,6 +67,6 @@ pub fn change_right(roll: &mut [u8], contractor: u32, right: u32) -> u32
     if refusal::is_refused(tried) {
         return refusal::outcome_number(tried);
     }
-    write_entry(roll, contractor, roll_changes::changed_entry(right, entry.count));
+    write_entry(roll, contractor, roll_changes::changed_entry(right, entry));
     0
 }

@@ -1,5 +1,5 @@
 -- What the calls that change a roll by value have to show, whichever change it is: what is tried is `tries` of the contractor's count, and the entry
--- becomes `new` of it. And where a call is not refused, its entry can be made.
+-- becomes `new` of what it was. And where a call is not refused, its entry can be made.
 use mathlib.Core.Path.{_≡_, refl, ap, _∙_}
 use mathlib.Core.Bool.{Bool, true, false}
 use mathlib.Core.List.{List}
@@ -11,29 +11,30 @@ use Rattle.refusal.proofs.Ladder.{numbered, after-zero, all-passed, answers-ref
 use Rattle.rights.specs.Rights.{isRight}
 use Rattle.roll.specs.declared.Roll.{Roll}
 use Rattle.roll.specs.declared.Entry.{Entry}
-use Rattle.roll.specs.Roll.{countOf, withEntry}
+use Rattle.roll.specs.Roll.{countOf, entryOf, withEntry}
 use Rattle.roll.proofs.Contractors.{a-standing}
 use Rattle.roll_changes.specs.Changes.{enterTries, withdrawTries}
 
--- n is the count that the code reads, r the number of its tries, b the test of it
-module _ (tries : ℕ → List Try) (new : ℕ → Entry) (roll : Roll) (c n r : ℕ) (b : Bool) (en : n ≡ countOf roll c) (er : r ≡ after 0 (tries n))
-    (eb : b ≡ isRefused r) where
-  abbrev pub Answers : Roll → Type 0
-  Answers x =
-      (r ≡ first (tries (countOf roll c))) × (x ≡ answered (first (tries (countOf roll c))) (withEntry roll c (new (countOf roll c))) roll)
+-- x is the entry that the code reads, r the number of its tries, b the test of it
+module _ (tries : ℕ → List Try) (new : Entry → Entry) (roll : Roll) (c : ℕ) (x : Entry) (r : ℕ) (b : Bool) (ex : x ≡ entryOf roll c)
+    (er : r ≡ after 0 (tries (x .count))) (eb : b ≡ isRefused r) where
+  abbrev ts : List Try
+  ts = tries (countOf roll c)
 
-  tried : r ≡ first (tries (countOf roll c))
-  tried = er ∙ ap (λ (m : ℕ). after 0 (tries m)) en ∙ after-zero 0 (tries (countOf roll c)) refl
+  abbrev made : Roll
+  made = withEntry roll c (new (entryOf roll c))
+
+  abbrev pub Answers : Roll → Type 0
+  Answers y = (r ≡ first ts) × (y ≡ answered (first ts) made roll)
+
+  tried : r ≡ first ts
+  tried = er ∙ ap (λ (e : Entry). after 0 (tries (e .count))) ex ∙ after-zero 0 ts refl
 
   pub refused : b ≡ true → Answers roll
-  refused h = (tried, answers-refused r (tries (countOf roll c)) tried b eb (withEntry roll c (new (countOf roll c))) roll h)
+  refused h = (tried, answers-refused r ts tried b eb made roll h)
 
-  pub done : b ≡ false → (e : Entry) → e ≡ new n → (x : Roll) → x ≡ withEntry roll c e → Answers x
-  done h e ee x ex = (
-    tried,
-    ex ∙ ap (withEntry roll c) (ee ∙ ap new en)
-        ∙ answers-done r (tries (countOf roll c)) tried b eb (withEntry roll c (new (countOf roll c))) roll h,
-  )
+  pub done : b ≡ false → (e : Entry) → e ≡ new x → (y : Roll) → y ≡ withEntry roll c e → Answers y
+  done h e ee y ey = (tried, ey ∙ ap (withEntry roll c) (ee ∙ ap new ex) ∙ answers-done r ts tried b eb made roll h)
 
 -- of the count that the code reads
 pub passed : (ts : List Try) (r : ℕ) (b : Bool) → r ≡ after 0 ts → b ≡ isRefused r → numbered ts ≡ true → b ≡ false → NoneHolds ts

@@ -47,39 +47,39 @@ pub fn try_change(prior: Outcome, contractor: u32, right: u32, count: u16) -> Ou
     ensures { λ r. ⌜ outcomeNumber r ≡ after (outcomeNumber prior) (changeTries contractor right count) ⌝ }
 {
     let known = unless(prior, Reason::Contractor, is_contractor(contractor));
-    let given = unless(known, Reason::UnknownRight, is_right(right));
-    unless(given, Reason::NotInStanding, is_in_standing(count))
+    let asked = unless(known, Reason::UnknownRight, is_right(right));
+    unless(asked, Reason::NotInStanding, is_in_standing(count))
 }
 
-// The entry of a contractor who is entered with a highest right.
-pub fn entered_entry(right: u32, count: u16) -> Entry
-    requires { ⌜ (isRight right ≡ true) × (count < 65535) ⌝ }
-    ensures { λ r. ⌜ r ≡ enteredEntry right count ⌝ }
+// What becomes of the entry of a contractor who is entered with a highest right.
+pub fn entered_entry(right: u32, entry: Entry) -> Entry
+    requires { ⌜ (isRight right ≡ true) × («entry» .count < 65535) ⌝ }
+    ensures { λ r. ⌜ r ≡ enteredEntry right «entry» ⌝ }
 {
     Entry {
-        count: count + 1,
+        count: entry.count + 1,
         figure: right as u8,
     }
 }
 
-// The entry of a contractor who is withdrawn: whoever enters them again gives the right anew.
-pub fn withdrawn_entry(count: u16) -> Entry
-    requires { ⌜ count < 65535 ⌝ }
-    ensures { λ r. ⌜ r ≡ withdrawnEntry count ⌝ }
+// Of one who is withdrawn: whoever enters them again gives the right anew.
+pub fn withdrawn_entry(entry: Entry) -> Entry
+    requires { ⌜ «entry» .count < 65535 ⌝ }
+    ensures { λ r. ⌜ r ≡ withdrawnEntry «entry» ⌝ }
 {
     Entry {
-        count: count + 1,
+        count: entry.count + 1,
         figure: 1,
     }
 }
 
-// The entry of a contractor whose highest right is changed: the count stays, so that no grant is revoked.
-pub fn changed_entry(right: u32, count: u16) -> Entry
+// Of one whose highest right is changed: the count stays, so that no grant is revoked.
+pub fn changed_entry(right: u32, entry: Entry) -> Entry
     requires { ⌜ isRight right ≡ true ⌝ }
-    ensures { λ r. ⌜ r ≡ changedEntry right count ⌝ }
+    ensures { λ r. ⌜ r ≡ changedEntry right «entry» ⌝ }
 {
     Entry {
-        count,
+        count: entry.count,
         figure: right as u8,
     }
 }
@@ -96,7 +96,7 @@ pub fn enter(roll: Roll, contractor: u32, right: u32) -> Changed
     }
     Changed {
         outcome,
-        roll: with_entry(roll, contractor, entered_entry(right, entry.count)),
+        roll: with_entry(roll, contractor, entered_entry(right, entry)),
     }
 }
 
@@ -112,7 +112,7 @@ pub fn withdraw(roll: Roll, contractor: u32) -> Changed
     }
     Changed {
         outcome,
-        roll: with_entry(roll, contractor, withdrawn_entry(entry.count)),
+        roll: with_entry(roll, contractor, withdrawn_entry(entry)),
     }
 }
 
@@ -128,6 +128,6 @@ pub fn change_right(roll: Roll, contractor: u32, right: u32) -> Changed
     }
     Changed {
         outcome,
-        roll: with_entry(roll, contractor, changed_entry(right, entry.count)),
+        roll: with_entry(roll, contractor, changed_entry(right, entry)),
     }
 }

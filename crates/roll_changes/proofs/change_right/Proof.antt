@@ -1,7 +1,6 @@
 -- `roll_changes::change_right` meets its contract.
-use mathlib.Core.Path.{refl, ap}
+use mathlib.Core.Path.{refl}
 use Rattle.refusal.specs.Tries.{NoneHolds}
-use Rattle.roll.specs.declared.Entry.{Entry}
 use Rattle.roll_changes.specs.Changes.{changeTries, changedEntry, changedRoll}
 use Rattle.roll_changes.proofs.Changes.{refused, done, passed}
 use borrow.Author.Needs.{needs}
@@ -18,7 +17,7 @@ returns c =
     let k = c .before in
     let t = k .before in
     let a = t .before .before .args in
-    refused (changeTries (a .contractor) (a .right)) (changedEntry (a .right)) (a .roll) (a .contractor) _ _ _ (ap (λ (e : Entry). e .count) (t .before .entry-of .ensures))
+    refused (changeTries (a .contractor) (a .right)) (changedEntry (a .right)) (a .roll) (a .contractor) _ _ _ (t .before .entry-of .ensures)
     (t .try-change .ensures) (k .is-refused .ensures) (c .if1 .taken)
 
 changed-entry-requires : tie.Need-changed-entry-requires
@@ -34,7 +33,7 @@ returns-2 c =
     let k = d .before in
     let t = k .before in
     let a = t .before .before .args in
-    done (changeTries (a .contractor) (a .right)) (changedEntry (a .right)) (a .roll) (a .contractor) _ _ _ (ap (λ (e : Entry). e .count) (t .before .entry-of .ensures))
+    done (changeTries (a .contractor) (a .right)) (changedEntry (a .right)) (a .roll) (a .contractor) _ _ _ (t .before .entry-of .ensures)
     (t .try-change .ensures) (k .is-refused .ensures) (d .if1 .left) _ (c .before .changed-entry .ensures) _ (c .with-entry .ensures)
 
 pub change-right-spec : {M : Type 1} → statement M
