@@ -6,7 +6,7 @@
 # make install    header, library and pkg-config file to PREFIX (/usr/local), after make library
 # make hosts  the static library and the programs over it, built and run
 # make bench  times, side by side with plain C, the independent program and other ciphers; no test
-# make stack  how much stack the calls on pages take, painted; no test
+# make stack  how much stack the checks of grants and the calls on the roll and on pages take, painted; no test
 # make instructions    how many instructions the engine, a list, a walk, a stage and the calls on pages take, and the diffusion on small processors; no test
 
 .PHONY: run library install test checks reading vectors reference hosts bench stack instructions
@@ -58,7 +58,7 @@ hosts:
 bench: library
 	cd bench && cargo run --release --offline
 
-# The stack of the checks of grants and of the calls on pages.
+# The stack of the checks of grants and of the calls on the roll and on pages.
 stack: library
 	gcc -O2 -Iinclude bench/stack.c target/staticlib/libcapi.a -o target/stack
 	target/stack

@@ -26,7 +26,8 @@ enum {
     MOST_ROUNDS = 23,
     MOST_LIST = BLOCK * (MOST_ROUNDS + 1),
     CONTRACTORS = 200,
-    ROLL = 2 * CONTRACTORS,
+    COUNTS = 2 * CONTRACTORS,
+    ROLL = COUNTS + CONTRACTORS,
     MOST_GRANTS = 64,
     PAYLOAD = 41 * BLOCK,
     CHECKED = BLOCK + PAYLOAD,
@@ -54,6 +55,7 @@ enum answer {
     NOT_IN_STANDING = 20,
     OTHER_COUNT = 23,
     BROKEN_HOLDER = 24,
+    ABOVE_HIGHEST = 25,
     WALKED_FORWARD = 1000,
     WALKED_BACK = 2000
 };
@@ -80,7 +82,7 @@ typedef uint32_t run_call(const uint8_t *list, size_t list_len,
                           const uint8_t *block, size_t block_len,
                           uint8_t *out, size_t out_len);
 
-/* A grant of 12 bytes, with key set-up, against a roll of 400 bytes. */
+/* A grant of 12 bytes, with key set-up, against a roll of 600 bytes. */
 typedef uint32_t check_call(const uint8_t *key, size_t key_len,
                             uint32_t rounds,
                             const uint8_t *roll, size_t roll_len,
@@ -88,7 +90,7 @@ typedef uint32_t check_call(const uint8_t *key, size_t key_len,
                             uint32_t size_block, uint32_t right);
 
 /*
- * Up to 64 grants of 12 bytes, with key set-up done once, against a roll of 400
+ * Up to 64 grants of 12 bytes, with key set-up done once, against a roll of 600
  * bytes: a byte for each.
  */
 typedef uint32_t queue_call(const uint8_t *key, size_t key_len,

@@ -150,8 +150,11 @@ static uint32_t run(const uint8_t *list, size_t list_len,
 /*
  * The check of a grant. Its plain bytes, each number big end first: 2 for the
  * contractor, 2 for the count, 4 for the size block, 1 for the right, 3 for the
- * mark. The roll has two bytes for each contractor from 1 on. A grant for
- * overwriting opens for reading too; the answer has the right asked for.
+ * mark. The roll has two bytes for the count of each contractor from 1 on, and
+ * after these one byte for the highest right of each, which is overwriting if the
+ * byte is 2 and reading if it is any other. A grant for overwriting opens for
+ * reading too; the answer has the right asked for, which is the one that is
+ * compared with the highest.
  */
 
 static uint32_t number(const uint8_t *bytes, int length)
@@ -186,6 +189,8 @@ static uint32_t check_plain(const uint8_t plain[BLOCK], const uint8_t *roll,
         return NOT_IN_STANDING;
     if (number(plain + 2, 2) != count)
         return OTHER_COUNT;
+    if (right == OVERWRITING && roll[COUNTS + contractor - 1] != OVERWRITING)
+        return ABOVE_HIGHEST;
     return 1000 * right + contractor;
 }
 

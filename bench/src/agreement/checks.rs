@@ -4,47 +4,72 @@ use std::collections::BTreeSet;
 
 use curupira_reference::cipher::allowed_rounds;
 use curupira_reference::generator::Generator;
-use curupira_reference::roll::Grant;
+use curupira_reference::roll::{Grant, CONTRACTORS, OVERWRITING};
 
 use super::{same, same_in_c, text, Tally, INDEPENDENT_STEP, INPUTS, KEY_LENGTHS};
 use crate::interface::LIBRARY;
 use crate::question::{
-    draw_counts, draw_grant, draw_number, enciphered, roll_bytes, Counts, Question,
+    draw_grant, draw_low_figure, draw_number, draw_right, enciphered, Entries, Question,
 };
 
 /// The reasons for which a grant of the right length is refused. All of them have
 /// to occur.
-const REASONS: [u32; 5] = [8, 9, 10, 20, 23];
+const REASONS: [u32; 6] = [8, 9, 10, 20, 23, 25];
 
-/// The ways in which a grant is changed are 0 to 7; from there on it is left. All but
-/// one make it wrong: the other right does so only where the grant is for reading.
-const WAYS: u8 = 20;
+/// The ways in which a grant or its contractor's entry is changed are 0 to 8; from there
+/// on nothing is. All but two make it wrong: the other right does so only where the grant
+/// is for reading, and a figure for reading only where overwriting is asked for.
+const WAYS: u8 = 22;
+
+/// The grants that open, those among them that are for another right than the one asked
+/// for, which is for overwriting, and asked for reading; and those among these whose
+/// contractors may only read.
+#[derive(Debug, Default)]
+struct Opened {
+    all: usize,
+    looks: usize,
+    demoted: usize,
+}
+
+impl Opened {
+    /// Counts a grant that opens for its contractor.
+    fn count(&mut self, question: &Question, contractor: u32) {
+        let look = right_in_grant(question) != question.right;
+        let figure = question.roll[2 * CONTRACTORS + contractor as usize - 1];
+        self.all += 1;
+        self.looks += usize::from(look);
+        self.demoted += usize::from(look && figure != OVERWRITING);
+    }
+}
 
 /// The number of grants, and how many of them open. Some that open have to be for
-/// another right than the one asked for: for overwriting, and asked for reading.
+/// another right than the one asked for, some of them of contractors who may only read,
+/// and some of contractors who may overwrite.
 pub fn check(generator: &mut Generator) -> Result<(Tally, usize), String> {
     let mut tally = Tally::default();
-    let (mut opened, mut looks) = (0, 0);
+    let mut opened = Opened::default();
     let mut refusals = BTreeSet::new();
     for key_length in KEY_LENGTHS {
         for rounds in allowed_rounds(key_length).map_err(text)? {
             for _ in 0..INPUTS {
                 let question = draw_question(generator, key_length, rounds as u32);
                 match check_question(&question, &mut tally)? {
-                    1000.. => {
-                        opened += 1;
-                        looks += usize::from(right_in_grant(&question) != question.right);
-                    }
+                    answer @ 1000.. => opened.count(&question, answer % 1000),
                     refusal => drop(refusals.insert(refusal)),
                 }
             }
         }
     }
-    if looks > 0 && opened > looks && refusals == BTreeSet::from(REASONS) {
-        Ok((tally, opened))
+    let Opened {
+        all,
+        looks,
+        demoted,
+    } = opened;
+    if demoted > 0 && looks > demoted && all > looks && refusals == BTreeSet::from(REASONS) {
+        Ok((tally, all))
     } else {
         Err(format!(
-            "{opened} grants open, {looks} of them for another right; the reasons are {refusals:?}"
+            "of the grants there are {opened:?}; the reasons are {refusals:?}"
         ))
     }
 }
@@ -78,25 +103,26 @@ fn check_question(question: &Question, tally: &mut Tally) -> Result<u32, String>
 
 /// A grant that opens, but for what two draws change.
 fn draw_question(generator: &mut Generator, key_length: usize, rounds: u32) -> Question {
-    let mut counts = draw_counts(generator);
-    let grant = draw_grant(generator, &mut counts);
-    let (size_block, right) = (grant.block, grant.right);
-    let plain = changed(generator, grant, &mut counts);
+    let mut entries = Entries::draw(generator);
+    let right = draw_right(generator);
+    let grant = draw_grant(generator, &mut entries, right);
+    let size_block = grant.block;
+    let plain = changed(generator, grant, &mut entries);
     let key = generator.bytes(key_length);
     Question {
         grants: enciphered(&key, rounds, &plain),
         key,
         rounds,
-        roll: roll_bytes(&counts),
+        roll: entries.bytes(),
         size_block,
         right: u32::from(right),
     }
 }
 
-/// The plain bytes of a grant, after two draws changed it, or the counts, or nothing.
-pub fn changed(generator: &mut Generator, mut grant: Grant, counts: &mut Counts) -> Vec<u8> {
+/// The plain bytes of a grant, after two draws changed it, or its entry, or nothing.
+pub fn changed(generator: &mut Generator, mut grant: Grant, entries: &mut Entries) -> Vec<u8> {
     let ways = [generator.byte() % WAYS, generator.byte() % WAYS];
-    let (right, place) = (grant.right, grant.contractor - 1);
+    let (right, place) = (grant.right, usize::from(grant.contractor) - 1);
     for way in ways {
         match way {
             0 => grant.contractor = 0,
@@ -105,10 +131,8 @@ pub fn changed(generator: &mut Generator, mut grant: Grant, counts: &mut Counts)
             3 => grant.block ^= 1 << (generator.byte() % 32),
             4 => grant.right = 3 - right,
             5 => grant.count ^= 1 << (generator.byte() % 16),
-            6 => {
-                counts[usize::from(place)] =
-                    [0, 65_534, 65_535, 2][usize::from(generator.byte() % 4)]
-            }
+            6 => entries.counts[place] = [0, 65_534, 65_535, 2][usize::from(generator.byte() % 4)],
+            8 => entries.figures[place] = draw_low_figure(generator),
             _ => {}
         }
     }

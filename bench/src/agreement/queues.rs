@@ -7,10 +7,10 @@ use curupira_reference::generator::Generator;
 
 use super::checks::changed;
 use super::{answer, same, same_in_c, text, Answer, Tally, INDEPENDENT_STEP, KEY_LENGTHS};
-use crate::question::{draw_counts, draw_grant, draw_number, enciphered, roll_bytes, Question};
+use crate::question::{draw_grant, draw_number, draw_right, enciphered, Entries, Question};
 
 /// The bytes that a grant can have. All of them have to occur.
-const BYTES: [u8; 6] = [0, 8, 9, 10, 20, 23];
+const BYTES: [u8; 7] = [0, 8, 9, 10, 20, 23, 25];
 
 /// The most grants that a queue is drawn with: one more than it can have.
 const GRANTS: usize = 65;
@@ -101,20 +101,21 @@ fn draw_queue(
     rounds: u32,
     grants: usize,
 ) -> Question {
-    let mut counts = draw_counts(generator);
+    let mut entries = Entries::draw(generator);
     let key = generator.bytes(key_length);
-    let (size_block, right) = (draw_number(generator, 4), 1 + generator.byte() % 2);
+    let (size_block, right) = (draw_number(generator, 4), draw_right(generator));
     let mut draw = || {
-        let mut grant = draw_grant(generator, &mut counts);
+        let right = draw_right(generator);
+        let mut grant = draw_grant(generator, &mut entries, right);
         grant.block = size_block;
-        let plain = changed(generator, grant, &mut counts);
+        let plain = changed(generator, grant, &mut entries);
         enciphered(&key, rounds, &plain)
     };
     let grants = (0..grants).flat_map(|_| draw()).collect();
     Question {
         key,
         rounds,
-        roll: roll_bytes(&counts),
+        roll: entries.bytes(),
         grants,
         size_block,
         right: u32::from(right),

@@ -93,14 +93,14 @@ fn check_run(bytes: &[u8], tally: &mut Tally) -> Result<(), String> {
 }
 
 fn check_check(key: &[u8], rounds: u32, bytes: &[u8], tally: &mut Tally) -> Result<(), String> {
-    for roll_length in [0, 2, 399, 400, 401] {
+    for roll_length in [0, 2, 400, 599, 600, 601] {
         for grant_length in [0, 11, 12, 13] {
             for right in [0, 1, 2, 3, 257, u32::MAX] {
                 let question = Question {
                     key: key.to_vec(),
                     rounds,
                     roll: bytes[..roll_length].to_vec(),
-                    grants: bytes[420..420 + grant_length].to_vec(),
+                    grants: bytes[620..620 + grant_length].to_vec(),
                     size_block: 1,
                     right,
                 };
@@ -112,14 +112,14 @@ fn check_check(key: &[u8], rounds: u32, bytes: &[u8], tally: &mut Tally) -> Resu
 }
 
 fn check_queue(key: &[u8], rounds: u32, bytes: &[u8], tally: &mut Tally) -> Result<(), String> {
-    for roll_length in [0, 399, 400, 401] {
+    for roll_length in [0, 400, 599, 600, 601] {
         for grants_length in [0, 11, 12, 13, 767, 768, 769, 780] {
             for right in [0, 1, 2, 3, u32::MAX] {
                 let question = Question {
                     key: key.to_vec(),
                     rounds,
                     roll: bytes[..roll_length].to_vec(),
-                    grants: bytes[420..420 + grants_length].to_vec(),
+                    grants: bytes[620..620 + grants_length].to_vec(),
                     size_block: 1,
                     right,
                 };

@@ -35,7 +35,11 @@ fn short_answer(call: Call, lent: &Lent) -> u32 {
         Call::Issue => issue(key, lent),
         Call::Check => check(key, block, lent),
         Call::CheckQueue => check_queue(key, block, lent),
-        Call::Enter => raw::enter_number(write(lent.roll), lent.contractor),
+        Call::EmptyRoll => raw::empty_roll_number(write(lent.out)),
+        Call::Enter => raw::enter_number(write(lent.roll), lent.contractor, lent.right),
+        Call::ChangeRight => {
+            raw::change_right_number(write(lent.roll), lent.contractor, lent.right)
+        }
         Call::Withdraw => raw::withdraw_number(write(lent.roll), lent.contractor),
         Call::Stage => raw::stage_number(key, lent.stage, write(lent.out)),
         Call::Subkey => raw::subkey_number(key, lent.stage, write(lent.out)),

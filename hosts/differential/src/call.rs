@@ -14,7 +14,9 @@ pub enum Call {
     Issue,
     Check,
     CheckQueue,
+    EmptyRoll,
     Enter,
+    ChangeRight,
     Withdraw,
     Stage,
     Subkey,
@@ -67,7 +69,7 @@ const SEALING: [Argument; 8] = [
 
 impl Call {
     /// All calls.
-    pub const ALL: [Call; 19] = [
+    pub const ALL: [Call; 21] = [
         Call::Encipher,
         Call::Decipher,
         Call::PrepareEnciphering,
@@ -76,7 +78,9 @@ impl Call {
         Call::Issue,
         Call::Check,
         Call::CheckQueue,
+        Call::EmptyRoll,
         Call::Enter,
+        Call::ChangeRight,
         Call::Withdraw,
         Call::Stage,
         Call::Subkey,
@@ -91,6 +95,9 @@ impl Call {
 
     /// The calls on pages. They take two keys and a scratch.
     pub const ON_PAGES: [Call; 2] = [Call::SealPage, Call::OpenPage];
+
+    /// The calls that write to a lent roll.
+    pub const ON_ROLL: [Call; 3] = [Call::Enter, Call::ChangeRight, Call::Withdraw];
 
     /// The place among all calls.
     pub fn place(self) -> usize {
@@ -109,7 +116,9 @@ impl Call {
             Call::Issue => "issue",
             Call::Check => "check",
             Call::CheckQueue => "check_queue",
+            Call::EmptyRoll => "empty_roll",
             Call::Enter => "enter",
+            Call::ChangeRight => "change_right",
             Call::Withdraw => "withdraw",
             Call::Stage => "stage",
             Call::Subkey => "subkey",
@@ -148,7 +157,9 @@ impl Call {
                 A::Right,
                 A::Out,
             ],
-            Call::Enter | Call::Withdraw => &[A::Roll, A::Contractor],
+            Call::EmptyRoll => &[A::Out],
+            Call::Enter | Call::ChangeRight => &[A::Roll, A::Contractor, A::Right],
+            Call::Withdraw => &[A::Roll, A::Contractor],
             Call::Stage | Call::Subkey => &[A::Key, A::Stage, A::Out],
             Call::HolderMake => &[A::Key, A::Out],
             Call::HolderForward | Call::HolderBack => &[A::Holder],
@@ -177,19 +188,20 @@ impl Call {
 
     /// Whether a reason has no meaning where another holds: without a right key length no round
     /// count and no stage is wrong, nothing is deciphered that is not whole, and without a roll and
-    /// a contractor nobody is in standing. And nobody in standing has a count that is spent, and who
-    /// asks for no right does not ask for overwriting. Two keys for a page can be wrong for being
-    /// equal, and everything else is then wrong or not as it is with other keys.
+    /// a contractor nobody is in standing or has a highest right. And nobody in standing has a count
+    /// that is spent, and who asks for no right does not ask for overwriting. Two keys for a page can
+    /// be wrong for being equal, and everything else is then wrong or not as it is with other keys.
     fn silences(self, holding: u32, other: u32) -> bool {
         let silent: &[u32] = match (self, holding) {
-            (Call::Check, 1) => &[2, 8, 9, 10, 20, 23],
-            (Call::Check, 2 | 3) => &[8, 9, 10, 20, 23],
-            (Call::Check, 7) => &[10],
-            (Call::Check, 8) => &[9, 10, 20, 23],
+            (Call::Check, 1) => &[2, 8, 9, 10, 20, 23, 25],
+            (Call::Check, 2 | 3) => &[8, 9, 10, 20, 23, 25],
+            (Call::Check, 7) => &[10, 25],
+            (Call::Check, 8) => &[9, 10, 20, 23, 25],
             (Call::OpenPage, 2) => &[13, LATE_11],
             (Call::SealPage | Call::OpenPage, _) => &[],
             (_, 1) => &[2, 5],
-            (_, 3 | 6) => &[20, 21, 22],
+            (_, 3 | 6) => &[20, 21, 22, 25],
+            (_, 7) => &[25],
             (_, 21) => &[22],
             _ => &[],
         };

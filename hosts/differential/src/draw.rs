@@ -8,7 +8,7 @@ use crate::holders;
 use crate::oracle::{Oracle, Way};
 use crate::paging;
 use crate::random::Random;
-use crate::rolls::set_count;
+use crate::rolls::{set_count, set_figure, FIGURES};
 use crate::spoil::spoil;
 
 /// How many arguments are spoilt: often none. Cases on pages are few, and are spoilt more.
@@ -16,16 +16,18 @@ const SPOILT: [usize; 10] = [0, 0, 0, 0, 0, 1, 1, 1, 2, 3];
 const SPOILT_ON_PAGES: [usize; 10] = [0, 0, 0, 0, 1, 1, 2, 2, 3, 4];
 
 /// How often each call is drawn from a family without pages.
-const WEIGHTS: [(Call, usize); 17] = [
+const WEIGHTS: [(Call, usize); 19] = [
     (Call::Encipher, 10),
     (Call::Decipher, 10),
     (Call::PrepareEnciphering, 7),
     (Call::PrepareDeciphering, 7),
     (Call::Run, 12),
     (Call::Issue, 14),
-    (Call::Check, 24),
-    (Call::CheckQueue, 11),
+    (Call::Check, 28),
+    (Call::CheckQueue, 13),
+    (Call::EmptyRoll, 3),
     (Call::Enter, 10),
+    (Call::ChangeRight, 10),
     (Call::Withdraw, 8),
     (Call::Stage, 7),
     (Call::Subkey, 7),
@@ -84,7 +86,13 @@ fn right_case(call: Call, family: &Family, oracle: &mut Oracle, random: &mut Ran
         Call::Issue => with_request(&mut case, family, random),
         Call::Check => with_grant(&mut case, family, random),
         Call::CheckQueue => with_queue(&mut case, family, random),
-        Call::Enter | Call::Withdraw => with_roll(&mut case, family, random),
+        Call::EmptyRoll => {}
+        Call::Enter => {
+            with_roll(&mut case, family, random);
+            case.right = random.pick(&[READING, OVERWRITING]);
+        }
+        Call::ChangeRight => with_standing(&mut case, family, random),
+        Call::Withdraw => with_roll(&mut case, family, random),
         Call::Stage | Call::Subkey => {
             case.key = family.key.clone();
             case.stage = random.below(case.key.len()) as u32;
@@ -177,25 +185,34 @@ fn some_end(holder: &[u8], random: &mut Random) -> u32 {
     (holders::number(holder) + forward as u32) % stages as u32
 }
 
-/// A roll and a contractor, often with a count near an end.
+/// A roll and a contractor, often with a count near an end, and often with another figure.
 fn with_roll(case: &mut Case, family: &Family, random: &mut Random) {
     case.roll = random.pick(&family.rolls);
     case.contractor = family::some_contractor(random);
     if random.once_in(2) {
         set_count(&mut case.roll, case.contractor, family::some_count(random));
     }
+    if random.once_in(2) {
+        let figure = family::some_figure(random);
+        set_figure(&mut case.roll, case.contractor, figure);
+    }
 }
 
-/// What an issue is asked for, mostly by someone in standing.
-fn with_request(case: &mut Case, family: &Family, random: &mut Random) {
-    with_key(case, family, random);
+/// The same with someone who is mostly in standing, and a right for them.
+fn with_standing(case: &mut Case, family: &Family, random: &mut Random) {
     with_roll(case, family, random);
     if !random.once_in(4) {
         let count = family::standing_count(random);
         set_count(&mut case.roll, case.contractor, count);
     }
+    case.right = random.pick(&[READING, OVERWRITING]);
+}
+
+/// What an issue is asked for, mostly by someone in standing.
+fn with_request(case: &mut Case, family: &Family, random: &mut Random) {
+    with_key(case, family, random);
+    with_standing(case, family, random);
     case.size_block = family::some_size_block(random);
-    case.right = random.pick(&[1, 2]);
 }
 
 /// A grant, as issued or tampered with, asked for its right or the other one, and the roll of its
@@ -208,23 +225,34 @@ fn with_grant(case: &mut Case, family: &Family, random: &mut Random) {
     if random.once_in(4) {
         case.right = READING + OVERWRITING - held.right;
     }
-    case.block = match random.below(2) {
+    case.block = match random.below(3) {
         0 => random.pick(&held.tampered),
         _ => held.grant.clone(),
     };
     case.roll = some_roll(held, family, random);
 }
 
-/// The roll of a grant's issue, that roll after changes, or one of the family.
+/// The roll of a grant's issue, that roll after changes, or one of the family. Then often the contractor
+/// of the grant has another figure, or everyone has: each their own, or all the same, as on a roll of
+/// counts to which figures were added.
 fn some_roll(held: &Held, family: &Family, random: &mut Random) -> Vec<u8> {
-    let few = 1 + random.below(6);
-    match random.below(16) {
-        0..=3 => family::changed(&held.roll, held.contractor, few),
-        4 => family::changed(&held.roll, held.contractor, random.below(2000)),
-        5 | 6 => family::changed(&held.roll, family::some_contractor(random), few),
+    let times = match random.below(16) {
+        0 => random.below(2000),
+        _ => 1 + random.below(6),
+    };
+    let mut roll = match random.below(16) {
+        0..=4 => family::changed(&held.roll, held.contractor, times, random),
+        5 | 6 => family::changed(&held.roll, family::some_contractor(random), times, random),
         7 => random.pick(&family.rolls),
         _ => held.roll.clone(),
+    };
+    match random.below(8) {
+        0..=3 => set_figure(&mut roll, held.contractor, family::some_figure(random)),
+        4 => roll[FIGURES..].fill_with(|| family::some_figure(random)),
+        5 => roll[FIGURES..].fill(family::some_figure(random)),
+        _ => {}
     }
+    roll
 }
 
 /// Some grants on one roll, asked for one size block, that of the family's first grant, and for

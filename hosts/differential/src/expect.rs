@@ -10,7 +10,7 @@ use crate::holders::{self, HOLDER_BYTES};
 use crate::oracle::{Oracle, Way};
 use crate::order::{number, LATE_11};
 use crate::pages::{self, Keys, PAGE_BYTES, PAYLOAD_BYTES, SCRATCH_BYTES};
-use crate::rolls::{self, count, in_standing, is_contractor, ROLL_BYTES};
+use crate::rolls::{self, count, figure, in_standing, is_contractor, may_overwrite, ROLL_BYTES};
 
 /// The bytes of a block, and of a grant.
 pub const BLOCK_BYTES: usize = 12;
@@ -32,7 +32,7 @@ pub const READING: u32 = 1;
 pub const OVERWRITING: u32 = 2;
 
 /// The reasons of a check that are seen in what was deciphered.
-pub const SEEN_IN_A_GRANT: [u32; 5] = [8, 9, 10, 20, 23];
+pub const SEEN_IN_A_GRANT: [u32; 6] = [8, 9, 10, 20, 23, 25];
 
 /// The reasons of opening that are seen with the keys only. Where one of them is given, the scratch is
 /// cleared all the same.
@@ -117,9 +117,10 @@ pub fn needed(case: &Case) -> u64 {
         Call::Stage => STAGE_BYTES as u64,
         Call::HolderMake => HOLDER_BYTES as u64,
         Call::CheckQueue => (case.block.len() / BLOCK_BYTES) as u64,
+        Call::EmptyRoll => ROLL_BYTES as u64,
         Call::SealPage => PAGE_BYTES as u64,
         Call::OpenPage => PAYLOAD_BYTES as u64,
-        Call::Check | Call::Enter | Call::Withdraw => 0,
+        Call::Check | Call::Enter | Call::ChangeRight | Call::Withdraw => 0,
         Call::HolderForward | Call::HolderBack | Call::HolderWalk => 0,
         _ => BLOCK_BYTES as u64,
     }
@@ -168,10 +169,11 @@ fn holds(case: &Case, reason: u32) -> bool {
         7 => case.right != READING && case.right != OVERWRITING,
         11 => !pages::has_form(&case.block),
         12 => case.block.len() > PAYLOAD_BYTES,
-        20 => own_count(case).map_or(false, |count| !in_standing(count)),
-        21 => own_count(case).map_or(false, in_standing),
-        22 => own_count(case).map_or(false, |count| count >= SPENT),
+        20 => own(case, count).map_or(false, |count| !in_standing(count)),
+        21 => own(case, count).map_or(false, in_standing),
+        22 => own(case, count).map_or(false, |count| count >= SPENT),
         24 => !holders::is_whole(&case.holder),
+        25 => own(case, figure).map_or(false, |figure| is_above(case.right, figure)),
         other => panic!("reason {other} is not seen without a key"),
     }
 }
@@ -226,7 +228,7 @@ fn wrong_input(case: &Case) -> bool {
     match case.call {
         Call::Check => wrong_block || wrong_roll,
         Call::CheckQueue => wrong_queue(case.block.len()) || wrong_roll,
-        Call::Issue | Call::Enter | Call::Withdraw => wrong_roll,
+        Call::Issue | Call::Enter | Call::ChangeRight | Call::Withdraw => wrong_roll,
         _ => wrong_block,
     }
 }
@@ -248,10 +250,15 @@ fn stages(case: &Case) -> Option<usize> {
     }
 }
 
-/// The count of the contractor that the case names, if there is one.
-fn own_count(case: &Case) -> Option<u16> {
+/// What the roll has for the contractor that the case names, if there are both.
+fn own<T>(case: &Case, part: fn(&[u8], u32) -> T) -> Option<T> {
     let present = case.roll.len() == ROLL_BYTES && is_contractor(case.contractor);
-    present.then(|| count(&case.roll, case.contractor))
+    present.then(|| part(&case.roll, case.contractor))
+}
+
+/// Whether a right that is asked for is above the highest that a figure stands for.
+fn is_above(right: u32, figure: u8) -> bool {
+    right == OVERWRITING && !may_overwrite(figure)
 }
 
 /// Whether a reason of a check holds that is seen in what was deciphered, which is a grant or not.
@@ -260,13 +267,15 @@ fn holds_of_grant(case: &Case, grant: Option<&Grant>, reason: u32) -> bool {
         Some(grant) => grant,
         None => return reason == 8,
     };
-    let count = count(&case.roll, u32::from(grant.contractor));
+    let contractor = u32::from(grant.contractor);
+    let count = count(&case.roll, contractor);
     match reason {
         8 => false,
         9 => grant.block != case.size_block,
         10 => u32::from(grant.right) == READING && case.right == OVERWRITING,
         20 => !in_standing(count),
         23 => grant.count != count,
+        25 => is_above(case.right, figure(&case.roll, contractor)),
         other => panic!("reason {other} is not seen in a grant"),
     }
 }
@@ -304,10 +313,8 @@ fn success(case: &Case, grants: &[Vec<u32>], oracle: &mut Oracle) -> Effect {
         Call::Issue => effect.written = oracle.block(Way::Encipher, key, rounds, &plain(case)),
         Call::Check => effect.answer = opening(case, oracle),
         Call::CheckQueue => effect.written = grants.iter().map(|one| byte(one)).collect(),
-        Call::Enter | Call::Withdraw => {
-            let next = count(&case.roll, case.contractor) + 1;
-            rolls::set_count(&mut effect.roll, case.contractor, next);
-        }
+        Call::EmptyRoll => effect.written = rolls::empty(),
+        Call::Enter | Call::ChangeRight | Call::Withdraw => effect.roll = roll_after(case),
         Call::Stage => effect.written = Oracle::stage(key, case.stage),
         Call::Subkey => effect.written = oracle.subkey(key, case.stage),
         Call::HolderMake => effect.written = oracle.holder(key, 0),
@@ -323,6 +330,22 @@ fn success(case: &Case, grants: &[Vec<u32>], oracle: &mut Oracle) -> Effect {
         Call::SealPage | Call::OpenPage => effect = on_page(case, oracle),
     }
     effect
+}
+
+/// The roll after a call that writes to it. Entering and withdrawing count one on; entering and
+/// changing write the right that is given, withdrawing that of reading.
+fn roll_after(case: &Case) -> Vec<u8> {
+    let mut roll = case.roll.clone();
+    if case.call != Call::ChangeRight {
+        let next = count(&roll, case.contractor) + 1;
+        rolls::set_count(&mut roll, case.contractor, next);
+    }
+    let highest = match case.call {
+        Call::Withdraw => READING,
+        _ => case.right,
+    };
+    rolls::set_figure(&mut roll, case.contractor, highest as u8);
+    roll
 }
 
 /// What a call on a page does where no reason holds.

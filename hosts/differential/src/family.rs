@@ -3,12 +3,12 @@
 
 use curupira_reference::roll::Grant;
 
-use crate::expect::{allowed_rounds, BLOCK_BYTES};
+use crate::expect::{allowed_rounds, BLOCK_BYTES, OVERWRITING};
 use crate::holders;
 use crate::oracle::{Oracle, Way};
 use crate::paging::{self, Sealed};
 use crate::random::Random;
-use crate::rolls::{self, count, model, set_count, ROLL_BYTES};
+use crate::rolls::{self, count, in_standing, model, set_count, set_figure, ROLL_BYTES};
 
 const BLOCKS: usize = 3;
 const ROLLS: usize = 3;
@@ -75,7 +75,8 @@ impl Family {
         family
     }
 
-    /// A grant from one of the rolls, after its contractor was brought into standing there.
+    /// A grant from one of the rolls, after its contractor was brought into standing there, and was
+    /// raised for a grant to overwrite.
     fn hold(&self, oracle: &mut Oracle, random: &mut Random) -> Held {
         let mut roll = random.pick(&self.rolls);
         let contractor = some_contractor(random);
@@ -84,8 +85,11 @@ impl Family {
             contractor: contractor as u16,
             count: count(&roll, contractor),
             block: some_size_block(random),
-            right: random.pick(&[1, 2]),
+            right: random.pick(&[1, 2, 2]),
         };
+        if u32::from(grant.right) == OVERWRITING {
+            set_figure(&mut roll, contractor, grant.right);
+        }
         let plain = grant.plain_bytes();
         let mut encipher =
             |plain: &[u8]| oracle.block(Way::Encipher, &self.key, self.rounds, plain);
@@ -109,18 +113,22 @@ impl Family {
     }
 
     /// A grant for the size block of one that is held, with any contractor's count on its roll or,
-    /// once in four times, on another. Now and then it is forged.
+    /// once in four times, on another. If the first contractor that is drawn is not in standing
+    /// there, it is for a second one. Now and then it is forged.
     fn stand_beside(&self, held: &Held, oracle: &mut Oracle, random: &mut Random) -> Vec<u8> {
         let roll = match random.below(4) {
             0 => random.pick(&self.rolls),
             _ => held.roll.clone(),
         };
-        let contractor = some_contractor(random);
+        let mut contractor = some_contractor(random);
+        if !in_standing(count(&roll, contractor)) {
+            contractor = some_contractor(random);
+        }
         let grant = Grant {
             contractor: contractor as u16,
             count: count(&roll, contractor),
             block: held.size_block,
-            right: random.pick(&[1, 2]),
+            right: random.pick(&[1, 2, 2]),
         };
         let mut plain = grant.plain_bytes();
         if random.once_in(4) {
@@ -225,15 +233,32 @@ pub fn standing_count(random: &mut Random) -> u16 {
     count.min(65_533)
 }
 
-/// A roll: of random counts, of counts near the ends, new, or after some life.
+/// A figure for a highest right: often 2, 1, one that differs from 2 in one bit, or any other.
+pub fn some_figure(random: &mut Random) -> u8 {
+    let any = random.byte();
+    match random.below(8) {
+        0..=3 => 2,
+        4 => 1,
+        5 | 6 => 2 ^ (1 << random.below(8)),
+        _ => random.pick(&[0, 3, 255, any]),
+    }
+}
+
+/// A roll: new, of zeros or of random bytes, after some life, or of counts near the ends with figures
+/// of every kind.
 fn roll(random: &mut Random) -> Vec<u8> {
-    match random.below(6) {
-        0 => vec![0; ROLL_BYTES],
-        1 => random.bytes(ROLL_BYTES),
-        2 => lived(&[0; ROLL_BYTES], random),
+    match random.below(12) {
+        0 => rolls::empty(),
+        1 => vec![0; ROLL_BYTES],
+        2 | 3 => random.bytes(ROLL_BYTES),
+        4 | 5 => lived(&rolls::empty(), random),
         _ => {
-            let counts = (0..ROLL_BYTES / 2).flat_map(|_| some_count(random).to_be_bytes());
-            counts.collect()
+            let mut roll = rolls::empty();
+            for contractor in 1..=200 {
+                set_count(&mut roll, contractor, some_count(random));
+                set_figure(&mut roll, contractor, some_figure(random));
+            }
+            roll
         }
     }
 }
@@ -243,23 +268,27 @@ fn lived(roll: &[u8], random: &mut Random) -> Vec<u8> {
     let mut model = model(roll);
     for _ in 0..LIFE {
         let contractor = some_contractor(random) as u16;
+        let right = random.pick(&[1, 2]);
         // A call that is refused changes nothing, as it has to be.
-        let _ = match random.below(2) {
-            0 => model.enter(contractor),
+        let _ = match random.below(3) {
+            0 => model.enter(contractor, right),
+            1 => model.change_right(contractor, right),
             _ => model.withdraw(contractor),
         };
     }
-    rolls::bytes(&model)
+    model.to_bytes()
 }
 
-/// A roll after so many changes of one contractor's standing, or fewer where the count is spent.
-pub fn changed(roll: &[u8], contractor: u32, times: usize) -> Vec<u8> {
+/// A roll after so many changes of one contractor's standing, or fewer where the count is spent. The
+/// contractor is entered with any right.
+pub fn changed(roll: &[u8], contractor: u32, times: usize, random: &mut Random) -> Vec<u8> {
     let mut model = model(roll);
     let contractor = contractor as u16;
     for _ in 0..times {
-        if model.enter(contractor).is_err() && model.withdraw(contractor).is_err() {
+        let right = random.pick(&[1, 2]);
+        if model.enter(contractor, right).is_err() && model.withdraw(contractor).is_err() {
             break;
         }
     }
-    rolls::bytes(&model)
+    model.to_bytes()
 }

@@ -5,12 +5,12 @@ use curupira_reference::cipher::{decrypt, encrypt};
 use curupira_reference::error::Error;
 use curupira_reference::holder;
 use curupira_reference::pages;
-use curupira_reference::roll::Refusal;
+use curupira_reference::roll::{Refusal, Roll};
 
 use crate::call::Call;
 use crate::case::Case;
 use crate::expect::{needed, only_answered, Effect, BLOCK_BYTES};
-use crate::rolls::{self, model, ROLL_BYTES};
+use crate::rolls::{model, ROLL_BYTES};
 
 /// What stands where bytes are to be written. It is no answer to a grant in a queue.
 const UNWRITTEN: u8 = 0xee;
@@ -26,7 +26,8 @@ pub fn second(case: &Case) -> Option<Effect> {
         Call::Issue => issue(case),
         Call::Check => check(case),
         Call::CheckQueue => queue(case),
-        Call::Enter | Call::Withdraw => roll(case),
+        Call::EmptyRoll => empty_roll(case),
+        Call::Enter | Call::ChangeRight | Call::Withdraw => roll(case),
         Call::HolderMake => Some(output(case, |out| holder::make(&case.key, out))),
         Call::HolderForward | Call::HolderBack | Call::HolderWalk => Some(moved(case)),
         Call::HolderSubkey => Some(output(case, |out| holder::subkey(&case.holder, out))),
@@ -40,7 +41,8 @@ pub fn second(case: &Case) -> Option<Effect> {
 /// deciphered, more for a queue the more grants it answers, and more for a page.
 pub fn cost(case: &Case, effect: &Effect) -> u64 {
     match case.call {
-        Call::Enter | Call::Withdraw | Call::HolderMake | Call::HolderSubkey => 0,
+        Call::EmptyRoll | Call::Enter | Call::ChangeRight | Call::Withdraw => 0,
+        Call::HolderMake | Call::HolderSubkey => 0,
         Call::CheckQueue if effect.written.is_empty() => 0,
         Call::CheckQueue => 1 + effect.written.len() as u64 / 2,
         Call::SealPage | Call::OpenPage if effect.scratch.is_empty() => 0,
@@ -112,21 +114,31 @@ fn queue(case: &Case) -> Option<Effect> {
     })
 }
 
+/// What a call does that writes to a lent roll.
 fn roll(case: &Case) -> Option<Effect> {
     if case.roll.len() != ROLL_BYTES {
         return None;
     }
     let contractor = u16::try_from(case.contractor).ok()?;
+    let right = u8::try_from(case.right).ok()?;
     let mut roll = model(&case.roll);
     let result = match case.call {
-        Call::Enter => roll.enter(contractor),
+        Call::Enter => roll.enter(contractor, right),
+        Call::ChangeRight => roll.change_right(contractor, right),
         _ => roll.withdraw(contractor),
     };
     let answer = result.map_or_else(number, |()| 0);
     Some(Effect {
-        roll: rolls::bytes(&roll),
+        roll: roll.to_bytes(),
         ..only_answered(case, answer)
     })
+}
+
+/// An empty roll, which the independent program returns and does not write to a place of the
+/// caller's.
+fn empty_roll(case: &Case) -> Option<Effect> {
+    let roll = Roll::new().to_bytes();
+    (case.out >= roll.len()).then(|| effect(case, Ok(roll)))
 }
 
 /// What a call does that steps or walks a holder.

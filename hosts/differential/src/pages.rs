@@ -131,7 +131,7 @@ pub fn answer(page: &[u8]) -> u64 {
         let bytes = page[from..to].iter();
         bytes.fold(0, |number, &byte| number << 8 | u64::from(byte))
     };
-    (1 << 63) + (number(6, 8) << 48) + (number(4, 6) << 32) + number(0, 4)
+    1 << 63 | number(6, 8) << 48 | number(4, 6) << 32 | number(0, 4)
 }
 
 fn sum(block: &[u8], other: &[u8]) -> Vec<u8> {

@@ -7,12 +7,16 @@ use crate::family::{self, one_bit_changed};
 use crate::holders::HOLDER_BYTES;
 use crate::paging;
 use crate::random::Random;
+use crate::rolls::ROLL_BYTES;
 
 /// Lengths of no key. The last one differs from 12 by 256.
 const KEY_LENGTHS: [usize; 10] = [0, 1, 11, 13, 17, 19, 23, 25, 32, 268];
 
-/// Lengths of no roll. The last one differs from 400 by 65,536.
-const ROLL_LENGTHS: [usize; 9] = [0, 1, 144, 398, 399, 401, 402, 600, 65_936];
+/// Lengths of no roll: none, parts of one, its counts alone, and more than one. Of 88, 856 and the last
+/// one, the lowest 8 or 16 bits are those of 600.
+const ROLL_LENGTHS: [usize; 13] = [
+    0, 1, 88, 200, 399, 400, 401, 598, 599, 601, 602, 856, 66_136,
+];
 
 /// Lengths of no holder. The last two differ from 26 by 256 and by 65,536.
 const HOLDER_LENGTHS: [usize; 7] = [0, 1, 24, 25, 27, 282, 65_562];
@@ -243,9 +247,10 @@ fn other_right(right: u32, random: &mut Random) -> u32 {
     }
 }
 
-/// The length of an output that is too short. None is for a queue of no grants.
+/// The length of an output that is too short. None is for a queue of no grants. No output that is
+/// written to has more bytes than a roll, but with a huge round count a call would need more.
 fn shorter_output(case: &Case, random: &mut Random) -> usize {
-    let needed = needed(case).min(512) as usize;
+    let needed = needed(case).min(ROLL_BYTES as u64) as usize;
     match random.below(4) {
         0 => 0,
         1 => 1,

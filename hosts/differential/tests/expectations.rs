@@ -6,11 +6,13 @@ use gordzila_differential::expect::{expected, Effect, OVERWRITING, READING};
 use gordzila_differential::opinion::second;
 use gordzila_differential::oracle::{Oracle, Way};
 use gordzila_differential::order::{name, number, read, LATE_11};
-use gordzila_differential::rolls::set_count;
+use gordzila_differential::rolls::{set_count, set_figure};
 use gordzila_differential::tally::Line;
 
 #[path = "expectations/pages.rs"]
 mod pages;
+#[path = "expectations/rights.rs"]
+mod rights;
 
 /// Bytes from hex.
 fn hex(text: &str) -> Vec<u8> {
@@ -65,11 +67,13 @@ const HOLDING: [Call; 4] = [
     Call::HolderSubkey,
 ];
 
-/// A case on a roll on which contractor 7 has a count and everyone else has 0.
+/// A case on a roll on which contractor 7 has a count and may overwrite, and everyone else was never
+/// entered.
 fn roll_case(call: Call, contractor: u32, count: u16) -> Case {
     let mut case = block_case(call, 12, 10);
-    case.roll = vec![0; 400];
+    case.roll = [vec![0; 400], vec![1; 200]].concat();
     set_count(&mut case.roll, 7, count);
+    set_figure(&mut case.roll, 7, 2);
     case.contractor = contractor;
     case.size_block = 300;
     case.right = 2;
@@ -95,7 +99,8 @@ fn the_worked_examples_of_the_cipher() {
 /// A case of a call in which no reason holds.
 fn right(call: Call) -> Case {
     let mut case = match call {
-        Call::Issue | Call::Check | Call::CheckQueue | Call::Withdraw => roll_case(call, 7, 1),
+        Call::Issue | Call::Check | Call::CheckQueue => roll_case(call, 7, 1),
+        Call::ChangeRight | Call::Withdraw => roll_case(call, 7, 1),
         Call::Enter => roll_case(call, 7, 0),
         _ if HOLDING.contains(&call) => holder_case(call, 12, 0, &[1; 12]),
         _ if Call::ON_PAGES.contains(&call) => pages::page_case(call),
@@ -103,6 +108,7 @@ fn right(call: Call) -> Case {
     };
     match call {
         Call::PrepareEnciphering | Call::PrepareDeciphering => case.out = 132,
+        Call::EmptyRoll => case.out = 600,
         Call::Stage => case.out = 24,
         Call::HolderMake => case.out = 26,
         Call::HolderWalk => case.stage = 7,
@@ -157,6 +163,7 @@ fn spoil(case: &mut Case, reason: u32) {
         22 => set_count(&mut case.roll, 7, 65_534),
         23 => set_count(&mut case.roll, 7, 3),
         24 => case.holder[1] = 12,
+        25 => set_figure(&mut case.roll, 7, 1),
         other => panic!("{other} is no reason"),
     }
 }
@@ -213,10 +220,12 @@ fn so_many_pairs_of_reasons_can_hold_together() {
         (Call::PrepareEnciphering, 3 - 1),
         (Call::PrepareDeciphering, 3 - 1),
         (Call::Run, 3),
-        (Call::Issue, 21 - 3),
-        (Call::Check, 36 - 21),
+        (Call::Issue, 28 - 6),
+        (Call::Check, 45 - 26),
         (Call::CheckQueue, 10 - 1),
-        (Call::Enter, 6 - 5),
+        (Call::EmptyRoll, 0),
+        (Call::Enter, 10 - 5),
+        (Call::ChangeRight, 6 - 2),
         (Call::Withdraw, 3 - 2),
         (Call::Stage, 3 - 1),
         (Call::Subkey, 3 - 1),
@@ -232,7 +241,7 @@ fn so_many_pairs_of_reasons_can_hold_together() {
         assert_eq!(call.pairs().len(), pairs, "{}", call.name());
     }
     let all: usize = Call::ALL.iter().map(|call| call.pairs().len()).sum();
-    assert_eq!(all, 87);
+    assert_eq!(all, 103);
 }
 
 #[test]
@@ -249,7 +258,18 @@ fn these_pairs_of_reasons_can_hold_of_a_queue_and_in_a_grant_of_it() {
         (4, 7),
     ];
     assert_eq!(Call::CheckQueue.pairs(), queue);
-    let in_a_grant = [(9, 10), (9, 20), (9, 23), (10, 20), (10, 23), (20, 23)];
+    let in_a_grant = [
+        (9, 10),
+        (9, 20),
+        (9, 23),
+        (9, 25),
+        (10, 20),
+        (10, 23),
+        (10, 25),
+        (20, 23),
+        (20, 25),
+        (23, 25),
+    ];
     assert_eq!(Line::Queued.pairs(), in_a_grant);
 }
 
@@ -517,33 +537,9 @@ fn a_broken_holder_and_a_stage_past_its_key() {
 }
 
 #[test]
-fn entering_and_withdrawing_by_count() {
-    let table = [
-        (0, 0, 20),
-        (1, 21, 0),
-        (2, 0, 20),
-        (65_532, 0, 20),
-        (65_533, 21, 0),
-        (65_534, 22, 20),
-        (65_535, 22, 20),
-    ];
-    for (count, enter, withdraw) in table {
-        for (call, number) in [(Call::Enter, enter), (Call::Withdraw, withdraw)] {
-            let case = roll_case(call, 7, count);
-            let mut roll = case.roll.clone();
-            if number == 0 {
-                set_count(&mut roll, 7, count + 1);
-            }
-            assert_eq!(answer(&case), number, "{case}");
-            assert_eq!(effect(&case).roll, roll, "{case}");
-        }
-    }
-}
-
-#[test]
 fn no_other_number_is_that_of_a_contractor() {
     for contractor in [0, 201, 256, 263, 65_536, 65_543, 7 << 16, u32::MAX] {
-        for call in [Call::Enter, Call::Withdraw, Call::Issue] {
+        for call in [Call::Enter, Call::ChangeRight, Call::Withdraw, Call::Issue] {
             assert_eq!(answer(&roll_case(call, contractor, 1)), 6);
         }
     }
@@ -616,25 +612,6 @@ fn ten_holds_only_where_overwriting_is_asked_of_a_reading_grant() {
     }
 }
 
-#[test]
-fn the_first_grant_of_the_independent_log() {
-    let mut case = roll_case(Call::Issue, 125, 0);
-    case.key = hex("c67e816b4bfbe2fb54f6bddf");
-    case.size_block = 484_542_209;
-    assert_eq!(answer(&case), 20);
-    set_count(&mut case.roll, 125, 1);
-    assert_eq!(effect(&case).written, hex("d32576330e4c32e359c52ef4"));
-    case.call = Call::Check;
-    case.block = hex("d32576330e4c32e359c52ef4");
-    assert_eq!(answer(&case), 2125);
-    case.right = 1;
-    assert_eq!(answer(&case), 1125);
-    set_count(&mut case.roll, 125, 2);
-    assert_eq!(answer(&case), 20);
-    set_count(&mut case.roll, 125, 3);
-    assert_eq!(answer(&case), 23);
-}
-
 /// A queue of so many grants of contractor 7 that open, asked for overwriting, with so many bytes for
 /// the answers.
 fn queue_case(grants: usize, out: usize) -> Case {
@@ -645,8 +622,9 @@ fn queue_case(grants: usize, out: usize) -> Case {
 }
 
 /// A contractor, a count and a right in a grant, and its byte if reading is asked for, and if
-/// overwriting is. On the roll contractor 7 has count 1, 8 has 2, 9 has 3, and others have 0.
-const QUEUED: [(u8, u8, u8, u8, u8); 12] = [
+/// overwriting is. On the roll contractor 7 has count 1, 8 has 2, 9 has 3, 10 has 5, and others have
+/// 0; 7 and 9 may overwrite, 10 has figure 3, and others have 1.
+const QUEUED: [(u8, u8, u8, u8, u8); 15] = [
     (7, 1, 1, 0, 10),
     (7, 1, 2, 0, 0),
     (7, 1, 3, 8, 8),
@@ -659,6 +637,9 @@ const QUEUED: [(u8, u8, u8, u8, u8); 12] = [
     (201, 1, 1, 8, 8),
     (200, 0, 2, 20, 20),
     (7, 3, 1, 23, 10),
+    (10, 5, 2, 0, 25),
+    (10, 3, 2, 23, 23),
+    (10, 5, 1, 0, 10),
 ];
 
 /// The queue of these grants, asked for a right, and the bytes that it has to get.
@@ -667,8 +648,10 @@ fn mixed_queue(asked: u32) -> (Case, Vec<u8>) {
     let grants = QUEUED.map(|(contractor, count, right, ..)| grant_of(contractor, count, right));
     case.block = grants.concat();
     case.right = asked;
-    set_count(&mut case.roll, 8, 2);
-    set_count(&mut case.roll, 9, 3);
+    for (contractor, count, figure) in [(8, 2, 1), (9, 3, 2), (10, 5, 3)] {
+        set_count(&mut case.roll, contractor, count);
+        set_figure(&mut case.roll, contractor, figure);
+    }
     let bytes = QUEUED.map(|(.., reading, overwriting)| match asked {
         READING => reading,
         _ => overwriting,
@@ -716,14 +699,17 @@ fn the_reasons_of_each_grant_in_a_queue() {
     let found = expected(&case, &mut Oracle::new()).grants;
     assert_eq!(found[0], [9, 10]);
     assert_eq!(found[2], [8]);
-    assert_eq!(found[4], [9, 10, 20]);
+    assert_eq!(found[4], [9, 10, 20, 25]);
     assert_eq!(found[11], [9, 10, 23]);
+    assert_eq!(found[12], [9, 25]);
     case.size_block -= 1;
     set_count(&mut case.roll, 7, 2);
     let found = expected(&case, &mut Oracle::new()).grants;
     assert_eq!(found[0], [10, 20, 23]);
     assert_eq!(found[1], [20, 23]);
     assert_eq!(found[6], []);
+    assert_eq!(found[13], [23, 25]);
+    assert_eq!(found[14], [10, 25]);
 }
 
 #[test]
@@ -790,7 +776,7 @@ fn a_queue_of_no_grants_is_tried_too() {
 
 #[test]
 fn a_roll_of_another_length_is_refused_with_3_before_4() {
-    for length in [0, 1, 399, 401, 600] {
+    for length in [0, 1, 399, 400, 401, 599, 601, 1000] {
         let mut case = queue_case(2, 1);
         case.roll.resize(length, 0);
         case.right = 3;

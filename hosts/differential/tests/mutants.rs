@@ -11,12 +11,15 @@ use gordzila_differential::expect::{needed, refused, Effect, Expected};
 use gordzila_differential::holders::HOLDER_BYTES;
 use gordzila_differential::lend::{Bytes, Lent, Library};
 use gordzila_differential::random::Random;
+use gordzila_differential::rolls::{FIGURES, ROLL_BYTES};
 use gordzila_differential::work::{family_cases, page_cases, FAMILY};
 
 #[path = "mutants/pages.rs"]
 mod pages;
 #[path = "mutants/queue.rs"]
 mod queue;
+#[path = "mutants/rights.rs"]
+mod rights;
 
 const SEED: u64 = 7;
 const FAMILIES: u64 = 200;
@@ -167,7 +170,7 @@ fn a_wrong_byte_of_an_output_is_found_at_every_place() {
     for call in writing() {
         let turn = AtomicUsize::new(0);
         // As often as it takes for each place to have its turn.
-        while turn.load(Ordering::Relaxed) <= 512 {
+        while turn.load(Ordering::Relaxed) <= ROLL_BYTES {
             always_found(call, |lent| {
                 let answer = archive(call, lent);
                 let is_wrong = is_done(answer) && written(call, lent) > 0;
@@ -267,13 +270,32 @@ fn a_byte_written_past_either_end_of_an_input_is_found() {
 
 #[test]
 fn a_roll_that_is_not_changed_is_found() {
-    for call in [Call::Enter, Call::Withdraw] {
+    for call in Call::ON_ROLL {
         always_found(call, |lent| {
             let before = copied(lent.roll);
             let answer = archive(call, lent);
-            unsafe { lent.roll.start.copy_from(before.as_ptr(), before.len()) };
-            (answer, answer == 0)
+            let is_wrong = copied(lent.roll) != before;
+            put(lent.roll, &before);
+            (answer, is_wrong)
         });
+    }
+}
+
+#[test]
+fn a_wrong_byte_of_a_roll_is_found_at_every_place() {
+    for call in Call::ON_ROLL {
+        let turn = AtomicUsize::new(0);
+        // As often as it takes for each place to have its turn.
+        while turn.load(Ordering::Relaxed) <= ROLL_BYTES {
+            always_found(call, |lent| {
+                let answer = archive(call, lent);
+                if answer == 0 {
+                    let place = turn.fetch_add(1, Ordering::Relaxed) % ROLL_BYTES;
+                    poke(lent.roll, place as isize);
+                }
+                (answer, answer == 0)
+            });
+        }
     }
 }
 
@@ -586,7 +608,8 @@ fn counts_cut_to_a_byte_are_found() {
     for call in [Call::Issue, Call::Check, Call::CheckQueue] {
         let library = |_, lent: &Lent| {
             let mut cut = copied(lent.roll);
-            cut.chunks_mut(2).for_each(|count| count[0] = 0);
+            let counts = cut.iter_mut().take(FIGURES);
+            counts.step_by(2).for_each(|high| *high = 0);
             let mut lent = *lent;
             lent.roll.start = cut.as_mut_ptr();
             archive(call, &lent)
@@ -620,7 +643,7 @@ fn by_other_rule(
 ) -> u64 {
     let answer = archive(Call::Check, lent);
     let mut plain = match deciphered(lent) {
-        Some(plain) if matches!(answer, 10 | 20 | 23 | 1000..) => plain,
+        Some(plain) if matches!(answer, 10 | 20 | 23 | 25 | 1000..) => plain,
         _ => return answer,
     };
     let (in_grant, asked) = (u32::from(plain[8]), lent.right);
@@ -691,13 +714,17 @@ fn ten_elsewhere_is_found(place: impl Fn(u64, u64, u8) -> u64 + Sync) {
 
 #[test]
 fn ten_in_another_place_is_found() {
-    // After 20, after 23, and before 9.
+    // After 20, after 23, after 25, and before 9.
     ten_elsewhere_is_found(|answer, after, _| match (answer, after) {
         (10, 20) => 20,
         _ => answer,
     });
     ten_elsewhere_is_found(|answer, after, _| match (answer, after) {
         (10, 23) => 23,
+        _ => answer,
+    });
+    ten_elsewhere_is_found(|answer, after, _| match (answer, after) {
+        (10, 25) => 25,
         _ => answer,
     });
     ten_elsewhere_is_found(|answer, _, in_grant| match (answer, in_grant) {
@@ -748,6 +775,12 @@ fn a_wrong_expectation_is_found() {
         if !expected.effect.written.is_empty() {
             let mut effect = expected.effect.clone();
             effect.written[0] ^= 0x80;
+            assert!(differs(case, &effect, &archive, &mut random), "{case}");
+            tried += 1;
+        }
+        if Call::ON_ROLL.contains(&case.call) && !case.roll.is_empty() {
+            let mut effect = expected.effect.clone();
+            *effect.roll.last_mut().expect("it is not empty") ^= 0x80;
             assert!(differs(case, &effect, &archive, &mut random), "{case}");
             tried += 1;
         }

@@ -34,8 +34,8 @@ fn the_program_finds_no_difference() {
         "{text}"
     );
     for pairs in [
-        "\npairs of reasons together: 87 of 87\n",
-        "\nthe same in a grant in a queue: 6 of 6\n",
+        "\npairs of reasons together: 103 of 103\n",
+        "\nthe same in a grant in a queue: 10 of 10\n",
     ] {
         assert!(text.contains(pairs), "{text}");
     }
@@ -58,7 +58,9 @@ fn the_program_fails_if_something_never_occurs() {
         "check_queue with reasons 3 and 4 together",
         "open_page with answer late 11",
         "open_page with reasons 11 and late 11 together",
+        "change_right with answer 20",
         "grant in a queue with answer 10",
+        "grant in a queue with answer 25",
         "grant in a queue with reasons 20 and 23 together",
     ] {
         assert!(
@@ -167,10 +169,9 @@ fn a_difference_is_printed_in_full() {
     assert!(outcome.different > 0);
     assert!(!outcome.is_good());
     let text = outcome.first[0].to_string();
-    assert!(text.contains(": enter roll="), "{text}");
+    assert!(text.contains(": enter roll=600:"), "{text}");
     assert!(text.contains(" contractor="), "{text}");
-    assert!(
-        text.contains("\n    answer is 6") || text.contains("\n    answer is 8"),
-        "{text}"
-    );
+    assert!(text.contains(" right="), "{text}");
+    assert!(text.contains("\n    answer is "), "{text}");
+    assert!(text.contains(", but has to be "), "{text}");
 }

@@ -6,11 +6,13 @@ use gordzila_differential::call::Call;
 use gordzila_differential::case::Case;
 use gordzila_differential::expect::{needed, Expected};
 use gordzila_differential::holders::{is_whole, key_length, HOLDER_BYTES};
-use gordzila_differential::rolls::{count, is_contractor};
+use gordzila_differential::rolls::{count, figure, is_contractor, ROLL_BYTES};
 use gordzila_differential::work::{family_cases, FAMILY};
 
 #[path = "situations/pages.rs"]
 mod pages;
+#[path = "situations/rights.rs"]
+mod rights;
 
 const SEED: u64 = 11;
 const FAMILIES: u64 = 600;
@@ -59,13 +61,17 @@ const KEYED: [Call; 10] = [
     Call::HolderMake,
 ];
 
-const ROLL: [Call; 5] = [
+const ROLL: [Call; 6] = [
     Call::Issue,
     Call::Check,
     Call::CheckQueue,
     Call::Enter,
+    Call::ChangeRight,
     Call::Withdraw,
 ];
+
+/// The calls that are given a contractor.
+const NAMING: [Call; 4] = [Call::Issue, Call::Enter, Call::ChangeRight, Call::Withdraw];
 
 const HOLDING: [Call; 4] = [
     Call::HolderForward,
@@ -78,7 +84,7 @@ const HOLDING: [Call; 4] = [
 fn lengths_occur() {
     let keys = [12, 18, 24, 0, 1, 11, 13, 17, 19, 23, 25, 32, 268];
     occur(&KEYED, &keys, |case| case.key.len());
-    let rolls = [400, 0, 399, 401, 600, 65_936];
+    let rolls = [600, 0, 1, 399, 400, 401, 599, 601, 856, 66_136];
     occur(&ROLL, &rolls, |case| case.roll.len());
     let holders = [26, 0, 1, 24, 25, 27, 282, 65_562];
     occur(&HOLDING, &holders, |case| case.holder.len());
@@ -96,15 +102,13 @@ fn numbers_occur() {
     let rounds: Vec<u32> = (8..=25).chain([0, 1, 266, u32::MAX]).collect();
     occur(&KEYED[..7], &rounds, |case| case.rounds);
     let contractors = [0, 1, 200, 201, u32::MAX];
-    let taking = [Call::Issue, Call::Enter, Call::Withdraw];
-    occur(&taking, &contractors, |case| case.contractor);
+    occur(&NAMING, &contractors, |case| case.contractor);
     let low_half =
         |case: &Case| case.contractor >> 16 == 1 && is_contractor(case.contractor & 0xffff);
-    occur(&taking, &[true], low_half);
-    let rights = [0, 1, 2, 3, 257, u32::MAX];
-    let taking = [Call::Issue, Call::Check, Call::CheckQueue];
-    occur(&taking, &rights, |case| case.right);
-    occur(&taking, &[0, 1, u32::MAX], |case| case.size_block);
+    occur(&NAMING, &[true], low_half);
+    let rights = [0, 1, 2, 3, 257, 258, u32::MAX];
+    occur(&ROLL[..5], &rights, |case| case.right);
+    occur(&ROLL[..3], &[0, 1, u32::MAX], |case| case.size_block);
     let stages: Vec<u32> = (0..=25).chain([u32::MAX]).collect();
     let taking = [Call::Stage, Call::Subkey, Call::HolderWalk];
     occur(&taking, &stages, |case| case.stage);
@@ -118,6 +122,7 @@ fn outputs_of_all_lengths_occur() {
         Call::Run,
         Call::Stage,
         Call::Subkey,
+        Call::EmptyRoll,
         Call::HolderMake,
         Call::HolderSubkey,
     ];
@@ -130,15 +135,24 @@ fn outputs_of_all_lengths_occur() {
     }
 }
 
+/// The count and the figure of the contractor that a case names, if it has a roll.
+fn entry(case: &Case) -> Option<(u16, u8)> {
+    let present = case.roll.len() == ROLL_BYTES && is_contractor(case.contractor);
+    present.then(|| {
+        let contractor = case.contractor;
+        (
+            count(&case.roll, contractor),
+            figure(&case.roll, contractor),
+        )
+    })
+}
+
 #[test]
 fn counts_near_the_end_occur() {
-    let calls = [Call::Enter, Call::Withdraw, Call::Issue];
-    let counted = |case: &Case| {
-        let present = case.roll.len() == 400 && is_contractor(case.contractor);
-        present.then(|| count(&case.roll, case.contractor))
-    };
     for near in [0, 1, 2, 65_531, 65_532, 65_533, 65_534, 65_535] {
-        occur(&calls, &[Some(near)], counted);
+        occur(&NAMING, &[Some(near)], |case| {
+            entry(case).map(|entry| entry.0)
+        });
     }
 }
 
@@ -167,7 +181,7 @@ fn grants_of_each_right_are_asked_for_each_right() {
         (1, 1, &[1001, 1200, 9, 20, 23]),
         (1, 2, &[9, 10]),
         (2, 1, &[1001, 1200, 9, 20, 23]),
-        (2, 2, &[2001, 2200, 9, 20, 23]),
+        (2, 2, &[2001, 2200, 9, 20, 23, 25]),
         (0, 1, &[8]),
         (0, 2, &[8]),
         (3, 1, &[8]),
@@ -350,7 +364,7 @@ fn queues_that_are_too_long_occur_with_every_output() {
 #[test]
 fn every_byte_occurs_at_either_end_of_queues() {
     for grants in [1, 2, 63, 64] {
-        for byte in [0, 8, 9, 10, 20, 23] {
+        for byte in [0, 8, 9, 10, 20, 23, 25] {
             let of_length = |written: &[u8]| written.len() == grants;
             let first = |written: &[u8]| of_length(written) && written[0] == byte;
             let last = |written: &[u8]| of_length(written) && written[grants - 1] == byte;
@@ -362,7 +376,7 @@ fn every_byte_occurs_at_either_end_of_queues() {
 
 #[test]
 fn queues_of_one_byte_and_of_all_bytes_occur() {
-    for byte in [0, 8, 9, 10, 20, 23] {
+    for byte in [0, 8, 9, 10, 20, 23, 25] {
         let same = |written: &[u8]| written.len() > 2 && written.iter().all(|&own| own == byte);
         assert!(queues().any(|queue| same(queue.1)), "{byte}");
         // All but the first, and all but the last.
@@ -377,9 +391,12 @@ fn queues_of_one_byte_and_of_all_bytes_occur() {
     }
     let all = |written: &[u8]| [0, 8, 9, 20, 23].iter().all(|byte| written.contains(byte));
     assert!(queues().filter(|queue| all(queue.1)).count() > 10);
-    let asked = |right, queue: (&Case, &[u8])| queue.0.right == right && queue.1.contains(&10);
-    assert!(queues().filter(|&queue| asked(2, queue)).count() > 10);
-    assert!(!queues().any(|queue| asked(1, queue)));
+    for byte in [10, 25] {
+        let asked =
+            |right, queue: (&Case, &[u8])| queue.0.right == right && queue.1.contains(&byte);
+        assert!(queues().filter(|&queue| asked(2, queue)).count() > 10);
+        assert!(!queues().any(|queue| asked(1, queue)));
+    }
 }
 
 /// Grants that open for two contractors and for both rights, and the same grant twice.

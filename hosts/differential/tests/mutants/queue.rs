@@ -3,7 +3,7 @@
 use std::collections::BTreeSet;
 
 use gordzila_differential::expect::{BLOCK_BYTES, QUEUE_GRANTS};
-use gordzila_differential::rolls::{count, is_contractor, set_count, ROLL_BYTES};
+use gordzila_differential::rolls::{count, figure, is_contractor, set_count, set_figure};
 
 use super::*;
 
@@ -175,7 +175,7 @@ fn a_queue_of_no_grants_that_is_refused_or_not_tried_is_found() {
 }
 
 /// Whether a reason holds of what is lent for a queue.
-fn holds(reason: u32, lent: &Lent) -> bool {
+pub fn holds(reason: u32, lent: &Lent) -> bool {
     let key_length = lent.key.length;
     match reason {
         1 => ![12, 18, 24].contains(&key_length),
@@ -386,7 +386,7 @@ fn a_wrong_byte_of_a_queue_is_found_at_every_place() {
 
 #[test]
 fn a_byte_taken_for_another_is_found() {
-    let bytes = [0, 8, 9, 10, 20, 23];
+    let bytes = [0, 8, 9, 10, 20, 23, 25];
     for (from, next) in bytes.into_iter().zip(bytes.into_iter().cycle().skip(1)) {
         for to in [next, 255] {
             other_bytes_are_found(|_, place, answered| match answered.after[place] {
@@ -414,21 +414,23 @@ fn an_opening_byte_other_than_0_is_found() {
 }
 
 /// The contractor in a grant that is lent for a single check, if the bytes name one.
-fn contractor(lent: &Lent) -> Option<u32> {
+pub fn contractor(lent: &Lent) -> Option<u32> {
     let plain = deciphered(lent)?;
     let contractor = u32::from(plain[0]) << 8 | u32::from(plain[1]);
     is_contractor(contractor).then_some(contractor)
 }
 
-/// What a single check answers if the contractor of one grant has the count that the contractor of
-/// another has.
-fn with_count_of(lent: &Lent, place: usize, other: usize) -> u64 {
+/// What the roll has for the contractor of one grant, written over what it has for that of another.
+type Copying = fn(&mut [u8], u32, u32);
+
+/// What a single check answers if the contractor of one grant has the count or the figure that the
+/// contractor of another has.
+fn with_that_of(lent: &Lent, place: usize, other: usize, copy: Copying) -> u64 {
     let mut one = single(lent, place);
     let mut roll = copied(lent.roll);
     let contractors = [one, single(lent, other)].map(|lent| contractor(&lent));
     if let [Some(own), Some(other)] = contractors {
-        let other = count(&roll, other);
-        set_count(&mut roll, own, other);
+        copy(&mut roll, own, other);
     }
     one.roll.start = roll.as_mut_ptr();
     archive(Call::Check, &one)
@@ -436,15 +438,25 @@ fn with_count_of(lent: &Lent, place: usize, other: usize) -> u64 {
 
 #[test]
 fn a_roll_that_is_not_read_for_each_grant_is_found() {
-    // The count of the first grant's contractor for all, and that of the grant before.
-    other_bytes_are_found(|lent, place, _| byte(with_count_of(lent, place, 0)));
-    other_bytes_are_found(|lent, place, _| {
-        byte(with_count_of(lent, place, place.saturating_sub(1)))
-    });
-    // The roll is looked at for the first grant only, or for none.
+    // The count or the figure of the first grant's contractor for all, and that of the grant before.
+    let copies: [Copying; 2] = [
+        |roll, own, other| set_count(roll, own, count(roll, other)),
+        |roll, own, other| set_figure(roll, own, figure(roll, other)),
+    ];
+    for copy in copies {
+        other_bytes_are_found(|lent, place, _| byte(with_that_of(lent, place, 0, copy)));
+        other_bytes_are_found(|lent, place, _| {
+            byte(with_that_of(lent, place, place.saturating_sub(1), copy))
+        });
+    }
+    // The roll is looked at for the first grant only, or for none; or its figures are.
     for looked_at in [1, 0] {
         other_bytes_are_found(|_, place, answered| match answered.after[place] {
-            20 | 23 if place >= looked_at => 0,
+            20 | 23 | 25 if place >= looked_at => 0,
+            byte => byte,
+        });
+        other_bytes_are_found(|_, place, answered| match answered.after[place] {
+            25 if place >= looked_at => 0,
             byte => byte,
         });
     }
@@ -513,6 +525,26 @@ fn every_other_rule_on_rights_in_a_queue_is_found() {
                 &refuses,
                 &|_, asked| asked,
             ))
+        });
+    }
+}
+
+#[test]
+fn every_other_rule_on_highest_rights_in_a_queue_is_found() {
+    for rule in rights::OTHER_RULES {
+        other_bytes_are_found(|lent, place, _| {
+            byte(rights::by_other_highest(&single(lent, place), rule))
+        });
+    }
+}
+
+/// Each reason that comes before 25 in the single check.
+#[test]
+fn twenty_five_in_another_place_of_a_queue_is_found() {
+    for first in [9, 10, 20, 23] {
+        other_bytes_are_found(|lent, place, answered| match answered.after[place] {
+            byte if byte == first && rights::is_above(Call::Check, &single(lent, place)) => 25,
+            byte => byte,
         });
     }
 }
