@@ -142,7 +142,8 @@ holds-7 = after-holds (enter 7 2 ∷ []) (rollBytes emptyRoll) (empty-holds .sma
 
 -- contractor 7 gets a grant with either right
 pub issued-7 : (right : ℕ) → isRight right ≡ true → CallIssued (replicate 12 0) 10 bytesWith7 7 300 right (replicate 12 0)
-unfolding bytesAfter called enterCallRoll first written answered rollOf countsOf rollBytes countsBytes emptyRoll countOf figureOf inStanding withEntry enteredRoll
+unfolding bytesAfter called enterCallRoll first written answered rollOf countsOf rollBytes countsBytes emptyRoll countOf figureOf inStanding withEntry
+    enteredRoll
 issued-7 right q = record {
   key-bytes = zeros-small (lit< tt) 12;
   roll-bytes = holds-7 .small;

@@ -1,22 +1,26 @@
 -- From what is claimed of checks on a roll by value to queues, and to the C calls on a roll's bytes.
 use mathlib.Core.Path.{_≡_, refl, sym, ap, _∙_, subst, subst⁻¹}
-use mathlib.Core.Bool.{_&&_}
-use mathlib.Core.List.{List, [], _∷_}
+use mathlib.Core.Bool.{Bool, _&&_}
+use mathlib.Core.List.{List, [], _∷_, _++_}
 use Prim.Native.Nat.{ℕ, _+_, _*_, _≤_}
 use native.Mathlib.Omega.{arith}
-use lib.Dec.{eqb, lit<}
+use lib.Dec.{eqb, leb, lit<}
 use lib.ListN.{length, getD}
-use borrow.Author.Tests.{eqb-true}
+use borrow.Author.Tests.{eqb-true, eq-eqb}
 use Rattle.basics.specs.Bytes.{AreBytes}
-use Rattle.refusal.specs.Tries.{first, answered}
+use Rattle.refusal.specs.Tries.{_unless_, first, answered}
 use Rattle.refusal.proofs.Tries.{none-given}
 use Rattle.refusal.proofs.Ladder.{all-pass}
-use Rattle.rights.proofs.Rights.{right-least}
+use Rattle.settings.specs.Settings.{settingsTries}
+use Rattle.rights.specs.Rights.{isRight}
+use Rattle.rights.proofs.Rights.{right-least, within-reading}
 use Rattle.roll.specs.declared.Roll.{Roll}
-use Rattle.roll.specs.Roll.{countOf, figureOf}
+use Rattle.roll.specs.Roll.{isContractor, countOf, figureOf, entryOf, inStanding}
 use Rattle.roll_changes.specs.Changes.{changeTries, changeNumber, changedRoll}
 use Rattle.roll_bytes.specs.RollBytes.{rollLength, rollOf}
 use Rattle.histories.specs.Histories.{Change, change, changed, rollAfter, Withdrawn, Raised, IsRoll}
+use Rattle.histories.proofs.Calls.{after-other}
+use Rattle.histories.proofs.Counts.{right-moves-none}
 use Rattle.grant.specs.Grants.{contractorIn}
 use Rattle.issuing.specs.Issuing.{issueTries}
 use Rattle.checking.specs.Checking.{openedGrant, checkNumber}
@@ -24,7 +28,7 @@ use Rattle.revocation.specs.Claims.{SameCheck}
 use Rattle.demotion.specs.Claims.{NoOverwriting, Above}
 use Rattle.demotion.proofs.Demoted.{never-overwrites, above, same-count, same-reading, raised-check, twenty-five}
 use Rattle.check_call.specs.CheckCall.{callTries, callCode}
-use Rattle.issue_call.specs.IssueCall.{issueCallTries}
+use Rattle.issue_call.specs.IssueCall.{issueCallTries, issueCallNumber}
 use Rattle.roll_calls.specs.RollCalls.{changeCallTries, changeCallNumber, changeCallRoll}
 use Rattle.call_claims.specs.CallHistories.{called, bytesAfter, CallWithdrawn, CallRaised}
 use Rattle.call_claims.specs.Claims.{Holds}
@@ -32,7 +36,15 @@ use Rattle.call_claims.proofs.Opens.{refused-with, is-check, call-passed, call-
 use Rattle.call_claims.proofs.Stored.{is-roll, passes-roll, call-holds, after-holds, withdrawn-called, raised-called}
 use Rattle.queue_claims.proofs.Bytes.{answers}
 use Rattle.queue_claims.proofs.Calls.{same-queue, roll-long}
-use Rattle.call_demotion.specs.Claims.{QueuesNoOverwriting, CallNoOverwriting}
+use Rattle.call_demotion.specs.Claims.{CallsLeave, QueuesNoOverwriting, CallNoOverwriting, CallReadsAs}
+
+-- ---- counts and others
+pub leaves : (roll : List ℕ) → AreBytes roll → length roll ≡ rollLength → CallsLeave roll
+unfolding called changed
+leaves roll small long = record {
+  counts = λ c right. ap (λ (r : Roll). r .counts) (call-holds (change c right) roll small long .read) ∙ right-moves-none (rollOf roll) c right;
+  others = λ hs c s. ap (λ (r : Roll). entryOf r c) (after-holds hs roll small long .read) ∙ after-other hs (rollOf roll) c s;
+}
 
 -- ---- a queue
 pub queues : (roll : Roll) (c : ℕ) → NoOverwriting roll c → QueuesNoOverwriting roll c
@@ -59,6 +71,18 @@ same-code key rounds roll other grant block right l m s =
     is-check key rounds other grant block right m
     ∙ (λ j. answered (s .number j) (1000 * s .answers-right j + s .answers-contractor j) (s .number j))
     ∙ sym (is-check key rounds roll grant block right l)
+
+-- an issue for reading, where the contractor's count is the same
+same-number : (key : List ℕ) (rounds : ℕ) (roll other : List ℕ) (c block : ℕ) (out : List ℕ)
+    → length roll ≡ rollLength → length other ≡ rollLength → countOf (rollOf other) c ≡ countOf (rollOf roll) c
+    → issueCallNumber key rounds other c block 1 out ≡ issueCallNumber key rounds roll c block 1 out
+same-number key rounds roll other c block out l m e =
+    let number : Bool → ℕ → Bool → ℕ =
+    λ a n b. first ((settingsTries (length key) rounds ++ ((3 unless a) ∷ []))
+    ++ ((4 unless leb 12 (length out)) ∷ (6 unless isContractor c) ∷ (7 unless isRight 1) ∷ (20 unless inStanding n) ∷ (25 unless b) ∷ [])) in
+    let a = eq-eqb (length other) rollLength m ∙ sym (eq-eqb (length roll) rollLength l) in
+    let b = within-reading (figureOf (rollOf other) c) ∙ sym (within-reading (figureOf (rollOf roll) c)) in
+    λ j. number (a j) (e j) (b j)
 
 -- ---- a demotion that is accepted
 module _ (roll : List ℕ) (small : AreBytes roll) (c : ℕ) (accepted : changeCallNumber roll c 1 ≡ 0) where
@@ -104,21 +128,39 @@ module _ (roll : List ℕ) (small : AreBytes roll) (c : ℕ) (accepted : changeC
         call-refused key rounds (changeCallRoll roll c 1) grant block 2 (low .long) 25 (lit< tt)
         (ap (λ (r : Roll). checkNumber key rounds r grant block 2) (low .read) ∙ e)
 
-    pub call-reads : (hs : List Change) → (CallWithdrawn c hs (changeCallRoll roll c 1) → ⊥)
-        → callCode key rounds (bytesAfter hs (changeCallRoll roll c 1)) grant block 1 ≡ callCode key rounds roll grant block 1
-    call-reads hs n =
-        let other = rollAfter hs (changedRoll (rollOf roll) c 1) in
-        let count = same-count (rollOf roll) is c on-roll hs
-        (λ w. n (withdrawn-called (changeCallRoll roll c 1) (low .small) (low .long) (subst⁻¹ (λ (r : Roll). Withdrawn c hs r) (low .read) w))) in
-        as-read 1 (bytesAfter hs (changeCallRoll roll c 1)) other (after hs)
-        (same-reading key rounds (rollOf roll) other grant block (subst (λ (d : ℕ). countOf other d ≡ countOf (rollOf roll) d) (sym named) count))
+  -- calls in which the contractor is not withdrawn
+  module _ (hs : List Change) (n : CallWithdrawn c hs (changeCallRoll roll c 1) → ⊥) where
+    stays-in : Withdrawn c hs (changedRoll (rollOf roll) c 1) → ⊥
+    stays-in w = n (withdrawn-called (changeCallRoll roll c 1) (low .small) (low .long) (subst⁻¹ (λ (r : Roll). Withdrawn c hs r) (low .read) w))
 
-    pub call-raised : figureOf (rollOf roll) c ≡ 2 → (right : ℕ)
-        → callCode key rounds (bytesAfter (change c 1 ∷ change c 2 ∷ []) roll) grant block right ≡ callCode key rounds roll grant block right
-    unfolding rollAfter changed
-    call-raised two right =
-        as-read right (bytesAfter (change c 1 ∷ change c 2 ∷ []) roll) _ (after-holds (change c 1 ∷ change c 2 ∷ []) roll small long)
-        (raised-check (rollOf roll) is c on-roll key rounds grant block named two right)
+    pub call-reads : CallReadsAs roll (bytesAfter hs (changeCallRoll roll c 1)) c
+    call-reads =
+        let bytes = bytesAfter hs (changeCallRoll roll c 1) in
+        let other = rollAfter hs (changedRoll (rollOf roll) c 1) in
+        let count = same-count (rollOf roll) is c on-roll hs stays-in in
+        record {
+          checks = λ key rounds grant block named.
+              as-read key rounds grant block named 1 bytes other (after hs)
+              (same-reading key rounds (rollOf roll) other grant block (subst (λ (d : ℕ). countOf other d ≡ countOf (rollOf roll) d) (sym named) count));
+          issues = λ key rounds block out.
+              same-number key rounds roll bytes c block out long (after hs .long)
+              (ap (λ (r : Roll). countOf r c) (after hs .read) ∙ count);
+        }
+
+    -- and once raised
+    pub call-raised : figureOf (rollOf roll) c ≡ 2 → changeCallNumber (bytesAfter hs (changeCallRoll roll c 1)) c 2 ≡ 0
+        → (key : List ℕ) (rounds : ℕ) (grant : List ℕ) (block right : ℕ) → contractorIn (openedGrant key rounds grant) ≡ c
+        → callCode key rounds (changeCallRoll (bytesAfter hs (changeCallRoll roll c 1)) c 2) grant block right ≡ callCode key rounds roll grant block right
+    unfolding called changed
+    call-raised two again key rounds grant block right named =
+        let bytes = bytesAfter hs (changeCallRoll roll c 1) in
+        let other = rollAfter hs (changedRoll (rollOf roll) c 1) in
+        let h = call-holds (change c 2) bytes (after hs .small) (after hs .long) in
+        let on = sym (passes-roll bytes (after hs .long) (changeTries c 2 (countOf (rollOf bytes) c))) ∙ again in
+        as-read key rounds grant block named right (changeCallRoll bytes c 2) (changedRoll other c 2)
+        record { small = h .small; long = h .long; read = h .read ∙ ap (λ (r : Roll). changedRoll r c 2) (after hs .read) }
+        (raised-check (rollOf roll) is c on-roll key rounds grant block named two hs stays-in
+        (ap (λ (r : Roll). changeNumber r c 2) (sym (after hs .read)) ∙ on) right)
 
 -- ---- when 25 is answered
 pub call-twenty-five : (key : List ℕ) (rounds : ℕ) (roll grant : List ℕ) (block right : ℕ)

@@ -1,28 +1,42 @@
 -- A term of each type of specs/Claims.antt.
-use mathlib.Core.Path.{_≡_, refl, ap, _∙_}
+use mathlib.Core.Path.{_≡_, refl, ap, ap₂, _∙_}
+use mathlib.Core.Bool.{Bool, true, _&&_}
 use mathlib.Core.List.{List, [], _∷_}
-use Prim.Native.Nat.{ℕ}
+use Prim.Native.Nat.{ℕ, _<_}
 use native.Mathlib.Omega.{arith}
-use lib.ListN.{replicate}
+use lib.Dec.{leb}
+use lib.ListN.{length, getD, replicate}
+use lib.Seq.{take-all}
+use borrow.Author.Tests.{eq-eqb}
 use Rattle.refusal.specs.Tries.{first, written, answered}
+use Rattle.refusal.proofs.Tries.{none-given}
 use Rattle.refusal.proofs.Ladder.{ordered}
+use Rattle.rights.specs.Rights.{isRight}
 use Rattle.roll.specs.Roll.{emptyRoll, countOf, figureOf, inStanding, withEntry}
-use Rattle.roll_changes.specs.Changes.{enteredRoll}
-use Rattle.roll_bytes.specs.RollBytes.{countsOf, rollOf, countsBytes, rollBytes}
-use Rattle.histories.specs.Histories.{enter, change, withdraw}
+use Rattle.roll_changes.specs.Changes.{enterTries, enteredRoll, changeTries, changedRoll}
+use Rattle.roll_bytes.specs.RollBytes.{rollLength, countsOf, rollOf, countsBytes, rollBytes}
+use Rattle.histories.specs.Histories.{enter, change, withdraw, changed}
 use Rattle.grant.specs.Grants.{contractorIn}
 use Rattle.checking.specs.Checking.{openedGrant}
 use Rattle.revocation.specs.Claims.{IssuedOpens}
 use Rattle.revocation.proofs.Claims.{issued-opens}
+use Rattle.revocation.proofs.Issued.{issued-twelve}
 use Rattle.demotion.proofs.Demoted.{never-overwrites, named-by}
-use Rattle.roll_calls.specs.RollCalls.{enterCallRoll, changeCallNumber, changeCallRoll, emptyCallTries, enterCallTries, withdrawCallTries, changeCallTries}
+use Rattle.roll_calls.specs.RollCalls.{enterCallNumber, enterCallRoll, changeCallNumber, changeCallRoll}
+use Rattle.roll_calls.specs.RollCalls.{emptyCallTries, enterCallTries, withdrawCallTries, changeCallTries}
 use Rattle.issue_call.specs.IssueCall.{issueCallTries}
-use Rattle.call_claims.specs.CallHistories.{called, bytesAfter, CallWithdrawn, later, CallRaised, raised-later}
-use Rattle.call_claims.specs.Claims.{bytesWith7}
+use Rattle.call_claims.specs.CallHistories.{called, bytesAfter, CallWithdrawn, later, CallRaised, by-entering, raised-later}
+use Rattle.check_call.specs.CheckCall.{callCode}
+use Rattle.queue_parts.specs.QueueParts.{queueLength, grantsIn}
+use Rattle.queue_call.specs.QueueCall.{callQueueTries, callQueueOutput}
+use Rattle.call_claims.specs.Claims.{Holds, bytesWith7}
+use Rattle.call_claims.proofs.Stored.{passes-roll, call-holds}
+use Rattle.queue_claims.specs.Claims.{asByte}
+use Rattle.queue_claims.proofs.Calls.{call-answers}
 use Rattle.call_claims.proofs.Claims.{holds-7, issued-7, issued, given, checks}
-use Rattle.call_demotion.specs.Claims.{RollCallsInOrder, QueueDemoted, CallsDemote, CallDemotedIsAbove, CallsStillRead, CallRaisedAsBefore}
-use Rattle.call_demotion.specs.Claims.{CallTwentyFiveOnlyAbove, grantTo7, CallsDemoteSomething}
-use Rattle.call_demotion.proofs.Calls.{queues, call-never-overwrites, call-above, call-reads, call-raised, call-twenty-five}
+use Rattle.call_demotion.specs.Claims.{RollCallsInOrder, CallsLeaveOthers, QueueDemoted, CallsDemote, CallDemotedIsAbove, CallsStillRead}
+use Rattle.call_demotion.specs.Claims.{CallRaisedAsBefore, CallTwentyFiveOnlyAbove, grantTo7, CallsDemoteSomething}
+use Rattle.call_demotion.proofs.Calls.{leaves, queues, call-never-overwrites, call-above, call-reads, call-raised, call-twenty-five}
 
 pub roll-calls-in-order : RollCallsInOrder
 unfolding RollCallsInOrder
@@ -46,13 +60,18 @@ pub call-demoted-is-above : CallDemotedIsAbove
 unfolding CallDemotedIsAbove
 call-demoted-is-above roll small c e key rounds grant block named h = call-above roll small c e key rounds grant block named h
 
+pub calls-leave-others : CallsLeaveOthers
+unfolding CallsLeaveOthers
+calls-leave-others = leaves
+
 pub calls-still-read : CallsStillRead
 unfolding CallsStillRead
-calls-still-read roll small c e hs n key rounds grant block named = call-reads roll small c e key rounds grant block named hs n
+calls-still-read roll small c e hs n = call-reads roll small c e hs n
 
 pub call-raised-as-before : CallRaisedAsBefore
 unfolding CallRaisedAsBefore
-call-raised-as-before roll small c two e key rounds grant block right named = call-raised roll small c e key rounds grant block named two right
+call-raised-as-before roll small c two e hs n again key rounds grant block right named =
+    call-raised roll small c e hs n two again key rounds grant block right named
 
 pub call-twenty-five-only-above : CallTwentyFiveOnlyAbove
 unfolding CallTwentyFiveOnlyAbove
@@ -85,7 +104,30 @@ raised-by-none = elim [ ]
 raised-by-withdrawing : {roll : List ℕ} → CallRaised 7 (withdraw 7 ∷ []) roll → ⊥
 raised-by-withdrawing (raised-later w) = raised-by-none w
 
-not-raised-7 : CallRaised 7 (enter 7 1 ∷ withdraw 7 ∷ []) (changeCallRoll bytesWith7 7 1) → ⊥
+-- 7 is in standing on the demoted bytes: so raising is accepted, and entering is not
+low-7 : Holds (changeCallRoll bytesWith7 7 1) (changedRoll (rollOf bytesWith7) 7 1)
+unfolding called changed
+low-7 = call-holds (change 7 1) bytesWith7 (holds-7 .small) (holds-7 .long)
+
+low-count-7 : countOf (rollOf (changeCallRoll bytesWith7 7 1)) 7 ≡ 1
+unfolding countOf bytesAfter called enterCallRoll first written answered rollOf countsOf rollBytes countsBytes emptyRoll inStanding withEntry enteredRoll
+low-count-7 =
+    ap (λ (ns : List ℕ). getD ns 6 0) (leaves bytesWith7 (holds-7 .small) (holds-7 .long) .counts 7 1)
+
+raises-7 : changeCallNumber (changeCallRoll bytesWith7 7 1) 7 2 ≡ 0
+unfolding first inStanding
+raises-7 =
+    passes-roll (changeCallRoll bytesWith7 7 1) (low-7 .long) (changeTries 7 2 (countOf (rollOf (changeCallRoll bytesWith7 7 1)) 7))
+    ∙ ap (λ (n : ℕ). first (changeTries 7 2 n)) low-count-7
+
+refused-7 : enterCallNumber (changeCallRoll bytesWith7 7 1) 7 2 ≡ 21
+unfolding first inStanding
+refused-7 =
+    passes-roll (changeCallRoll bytesWith7 7 1) (low-7 .long) (enterTries 7 2 (countOf (rollOf (changeCallRoll bytesWith7 7 1)) 7))
+    ∙ ap (λ (n : ℕ). first (enterTries 7 2 n)) low-count-7
+
+not-raised-7 : CallRaised 7 (enter 7 2 ∷ withdraw 7 ∷ []) (changeCallRoll bytesWith7 7 1) → ⊥
+not-raised-7 (by-entering e) = omega (arith, e, refused-7)
 not-raised-7 (raised-later w) = raised-by-withdrawing w
 
 withdrawn-by-none : {roll : List ℕ} → CallWithdrawn 7 [] roll → ⊥
@@ -94,18 +136,40 @@ withdrawn-by-none = elim [ ]
 not-withdrawn-7 : CallWithdrawn 7 (change 7 2 ∷ enter 8 1 ∷ []) (changeCallRoll bytesWith7 7 1) → ⊥
 not-withdrawn-7 (later (later w)) = withdrawn-by-none w
 
+-- the byte of the grant, alone in a queue on a roll's bytes, is the check's answer
+twelve-7 : length grantTo7 ≡ 12
+twelve-7 =
+    let key : List ℕ = replicate 12 0 in
+    ap length (given key 10 bytesWith7 7 300 2 key (issued-7 2 refl)) ∙ issued-twelve key 10 (rollOf bytesWith7) 7 300 2
+
+alone : (roll : List ℕ) → length roll ≡ rollLength → (right code : ℕ) → isRight right ≡ true
+    → callCode (replicate 12 0) 10 roll grantTo7 300 right ≡ code
+    → getD (callQueueOutput (replicate 12 0) 10 roll grantTo7 300 right (0xFF ∷ [])) 0 0 ≡ asByte code
+alone roll long right code q e =
+    let key : List ℕ = replicate 12 0 in
+    let out : List ℕ = 0xFF ∷ [] in
+    let l = ap₂ (λ (a : Bool) (n : ℕ). a && queueLength n) (eq-eqb (length roll) rollLength long) twelve-7 in
+    let room = ap (λ (n : ℕ). leb (grantsIn n) 1) twelve-7 in
+    let z = none-given (callQueueTries key 10 roll grantTo7 right out) (refl, (refl, (l, (room, (q, tt))))) in
+    let h : 0 < grantsIn (length grantTo7) = omega (arith, ap grantsIn twelve-7) in
+    call-answers key 10 roll grantTo7 300 right out z .each 0 h
+    ∙ ap asByte (ap (λ (g : List ℕ). callCode key 10 roll g 300 right) (take-all 12 grantTo7 (omega (arith, twelve-7))) ∙ e)
+
 pub calls-demote-something : CallsDemoteSomething
 unfolding CallsDemoteSomething bytesAfter called
 calls-demote-something =
     let key : List ℕ = replicate 12 0 in
     let c = checks key 10 bytesWith7 7 300 2 key (issued-7 2 refl) in
     let b = holds-7 .small in
+    let above = call-above bytesWith7 b 7 demoted-7 key 10 grantTo7 300 named-7 (omega (arith, c .opens)) in
+    let reads = call-reads bytesWith7 b 7 demoted-7 [] withdrawn-by-none .checks key 10 grantTo7 300 named-7 ∙ c .looks refl in
     record {
-      opens = c .opens;
+      opens = (c .opens, alone bytesWith7 (holds-7 .long) 2 2007 refl (c .opens));
       demoted = demoted-7;
-      above = call-above bytesWith7 b 7 demoted-7 key 10 grantTo7 300 named-7 (omega (arith, c .opens));
-      reads = call-reads bytesWith7 b 7 demoted-7 key 10 grantTo7 300 named-7 [] withdrawn-by-none ∙ c .looks refl;
-      raised = call-raised bytesWith7 b 7 demoted-7 key 10 grantTo7 300 named-7 overwriting-7 2 ∙ c .opens;
+      above = (above, alone (changeCallRoll bytesWith7 7 1) (low-7 .long) 2 25 refl above);
+      reads = (reads, alone (changeCallRoll bytesWith7 7 1) (low-7 .long) 1 1007 refl reads);
+      raises = raises-7;
+      raised = call-raised bytesWith7 b 7 demoted-7 [] withdrawn-by-none overwriting-7 raises-7 key 10 grantTo7 300 2 named-7 ∙ c .opens;
       not-raised = not-raised-7;
       not-withdrawn = not-withdrawn-7;
     }

@@ -7,10 +7,10 @@ use lib.ListN.{length, getD, replicate}
 use Rattle.basics.specs.Bytes.{AreBytes}
 use Rattle.refusal.specs.Claims.{Ordered}
 use Rattle.roll.specs.declared.Roll.{Roll}
-use Rattle.roll.specs.Roll.{figureOf}
+use Rattle.roll.specs.Roll.{figureOf, entryOf}
 use Rattle.roll_changes.specs.Changes.{changeNumber, changedRoll}
-use Rattle.roll_bytes.specs.RollBytes.{rollOf}
-use Rattle.histories.specs.Histories.{Change, enter, change, withdraw, rollAfter, Raised, IsRoll}
+use Rattle.roll_bytes.specs.RollBytes.{rollLength, rollOf}
+use Rattle.histories.specs.Histories.{Change, enter, change, withdraw, rollAfter, Raised, Spares, IsRoll}
 use Rattle.grant.specs.Grants.{contractorIn}
 use Rattle.checking.specs.Checking.{openedGrant}
 use Rattle.demotion.specs.Claims.{Above}
@@ -34,6 +34,15 @@ pub record CallsOrdered (key : List ℕ) (rounds : ℕ) (roll : List ℕ) (c blo
 
 unfoldable pub RollCallsInOrder : Type 0
 RollCallsInOrder = (key : List ℕ) (rounds : ℕ) (roll : List ℕ) (c block right : ℕ) (out : List ℕ) → CallsOrdered key rounds roll c block right out
+
+-- ---- counts and others
+-- on a roll's bytes gordzila_change_right moves no count, nobody's; and calls for others leave a contractor's count and right
+pub record CallsLeave (roll : List ℕ) : Type 0 where
+  pub counts : (c right : ℕ) → rollOf (changeCallRoll roll c right) .counts ≡ rollOf roll .counts
+  pub others : (hs : List Change) (c : ℕ) → Spares c hs → entryOf (rollOf (bytesAfter hs roll)) c ≡ entryOf (rollOf roll) c
+
+unfoldable pub CallsLeaveOthers : Type 0
+CallsLeaveOthers = (roll : List ℕ) → AreBytes roll → length roll ≡ rollLength → CallsLeave roll
 
 -- ---- no overwriting in a queue
 -- on a roll no grant of a contractor's has in a queue that is asked for overwriting a byte of 0, wherever it stands and whatever stands around it
@@ -71,19 +80,26 @@ CallDemotedIsAbove = (roll : List ℕ) → AreBytes roll → (c : ℕ) → chang
     → 1000 ≤ callCode key rounds roll grant block 2 → callCode key rounds (changeCallRoll roll c 1) grant block 2 ≡ 25
 
 -- ---- reading goes on
--- asked for reading, gordzila_check answers what it answered before, until a gordzila_withdraw of the contractor answers 0
+-- asked for reading, gordzila_check answers what it answered on the bytes before, and so does gordzila_issue
+pub record CallReadsAs (roll other : List ℕ) (c : ℕ) : Type 0 where
+  pub checks : (key : List ℕ) (rounds : ℕ) (grant : List ℕ) (block : ℕ) → contractorIn (openedGrant key rounds grant) ≡ c
+      → callCode key rounds other grant block 1 ≡ callCode key rounds roll grant block 1
+  pub issues : (key : List ℕ) (rounds block : ℕ) (out : List ℕ)
+      → issueCallNumber key rounds other c block 1 out ≡ issueCallNumber key rounds roll c block 1 out
+
+-- so it is after a demotion, until a gordzila_withdraw of the contractor answers 0
 unfoldable pub CallsStillRead : Type 0
 CallsStillRead = (roll : List ℕ) → AreBytes roll → (c : ℕ) → changeCallNumber roll c 1 ≡ 0
-    → (hs : List Change) → (CallWithdrawn c hs (changeCallRoll roll c 1) → ⊥)
-    → (key : List ℕ) (rounds : ℕ) (grant : List ℕ) (block : ℕ) → contractorIn (openedGrant key rounds grant) ≡ c
-    → callCode key rounds (bytesAfter hs (changeCallRoll roll c 1)) grant block 1 ≡ callCode key rounds roll grant block 1
+    → (hs : List Change) → (CallWithdrawn c hs (changeCallRoll roll c 1) → ⊥) → CallReadsAs roll (bytesAfter hs (changeCallRoll roll c 1)) c
 
 -- ---- raised again
--- demoted, and raised by the next call, gordzila_check answers whatever is asked as before both
+-- whatever is called meanwhile, unless a gordzila_withdraw of the contractor answers 0: once raised, gordzila_check answers whatever is asked of their
+-- grants as before the demotion
 unfoldable pub CallRaisedAsBefore : Type 0
 CallRaisedAsBefore = (roll : List ℕ) → AreBytes roll → (c : ℕ) → figureOf (rollOf roll) c ≡ 2 → changeCallNumber roll c 1 ≡ 0
+    → (hs : List Change) → (CallWithdrawn c hs (changeCallRoll roll c 1) → ⊥) → changeCallNumber (bytesAfter hs (changeCallRoll roll c 1)) c 2 ≡ 0
     → (key : List ℕ) (rounds : ℕ) (grant : List ℕ) (block right : ℕ) → contractorIn (openedGrant key rounds grant) ≡ c
-    → callCode key rounds (bytesAfter (change c 1 ∷ change c 2 ∷ []) roll) grant block right ≡ callCode key rounds roll grant block right
+    → callCode key rounds (changeCallRoll (bytesAfter hs (changeCallRoll roll c 1)) c 2) grant block right ≡ callCode key rounds roll grant block right
 
 -- ---- when 25 is answered
 unfoldable pub CallTwentyFiveOnlyAbove : Type 0
@@ -99,14 +115,19 @@ grantTo7 = grantGiven (replicate 12 0) 10 bytesWith7 7 300 2 (replicate 12 0)
 abbrev pub answerAfter : List Change → ℕ → ℕ
 answerAfter hs right = callCode (replicate 12 0) 10 (bytesAfter hs bytesWith7) grantTo7 300 right
 
+-- and the byte of it, alone in a queue
+abbrev pub byteAfter : List Change → ℕ → ℕ
+byteAfter hs right = getD (callQueueOutput (replicate 12 0) 10 (bytesAfter hs bytesWith7) grantTo7 300 right (0xFF ∷ [])) 0 0
+
 pub record CallExample : Type 0 where
-  pub opens : answerAfter [] 2 ≡ 2007
+  pub opens : (answerAfter [] 2 ≡ 2007) × (byteAfter [] 2 ≡ 0)
   pub demoted : changeCallNumber bytesWith7 7 1 ≡ 0
-  pub above : answerAfter (change 7 1 ∷ []) 2 ≡ 25
-  pub reads : answerAfter (change 7 1 ∷ []) 1 ≡ 1007
+  pub above : (answerAfter (change 7 1 ∷ []) 2 ≡ 25) × (byteAfter (change 7 1 ∷ []) 2 ≡ 25)
+  pub reads : (answerAfter (change 7 1 ∷ []) 1 ≡ 1007) × (byteAfter (change 7 1 ∷ []) 1 ≡ 0)
+  pub raises : changeCallNumber (changeCallRoll bytesWith7 7 1) 7 2 ≡ 0
   pub raised : answerAfter (change 7 1 ∷ change 7 2 ∷ []) 2 ≡ 2007
-  -- there are lists of calls that raise nobody, and lists in which 7 is not withdrawn
-  pub not-raised : CallRaised 7 (enter 7 1 ∷ withdraw 7 ∷ []) (changeCallRoll bytesWith7 7 1) → ⊥
+  -- there are lists of calls that raise nobody, among them one that would, but is refused since 7 is in standing; and lists in which 7 is not withdrawn
+  pub not-raised : CallRaised 7 (enter 7 2 ∷ withdraw 7 ∷ []) (changeCallRoll bytesWith7 7 1) → ⊥
   pub not-withdrawn : CallWithdrawn 7 (change 7 2 ∷ enter 8 1 ∷ []) (changeCallRoll bytesWith7 7 1) → ⊥
 
 unfoldable pub CallsDemoteSomething : Type 0

@@ -44,7 +44,9 @@ use Rattle.roll.specs.Roll.{countOf, figureOf, entryOf, inStanding}
 use Rattle.rights.specs.Rights.{covers, highest, withinHighest}
 use Rattle.grant.specs.Grants.{contractorIn, countIn, sizeBlockIn, isMarked, isGrant}
 use Rattle.judging.specs.Judging.{inputTries, plainTries}
+use Rattle.roll_bytes.specs.RollBytes.{countsOf, rollOf}
 use Rattle.checking.specs.Checking.{openedGrant}
+use Rattle.check_call.specs.CheckCall.{callCode}
 use Rattle.queue.specs.Queue.{queueAnswers}
 use Rattle.cases.specs.KnownAnswers.{overwritingOf1, readingOf1, overwritingOf2, earlierOf3, overwritingOf3}
 use Rattle.cases.specs.KnownAnswers.{knownAnswers, pileAnswers, orderAnswers, allKnownAnswers, KnownAnswersHold}
@@ -111,8 +113,10 @@ piles =
     & tt
 
 orders : Hold orderAnswers
-unfolding orderAnswers first answered whole blank holderOf walkCallCode
-orders = refl & refl & refl & refl & refl & refl & refl & refl & refl & refl & refl & refl & tt
+unfolding orderAnswers first answered whole blank holderOf walkCallCode rollOf countsOf countOf inStanding callCode
+orders =
+    refl & refl & refl & refl & refl & refl & refl & refl & refl & refl & refl & refl &
+    refl & refl & refl & refl & refl & refl & refl & refl & refl & refl & refl & tt
 
 pub known-answers-hold : KnownAnswersHold
 unfolding KnownAnswersHold allKnownAnswers

@@ -25,6 +25,10 @@ use Rattle.holder_bytes.specs.KnownAnswers as HB
 use Rattle.holder_calls.specs.HolderCalls.{makeCallNumber}
 use Rattle.holder_walk_call.specs.WalkCall.{walkCallCode}
 use Rattle.holder_subkey_call.specs.SubkeyCall.{heldSubkeyNumber}
+use Rattle.roll_calls.specs.RollCalls.{emptyCallNumber, enterCallNumber, withdrawCallNumber, changeCallNumber}
+use Rattle.issue_call.specs.IssueCall.{issueCallNumber}
+use Rattle.check_call.specs.CheckCall.{callCode}
+use Rattle.queue_call.specs.QueueCall.{callQueueNumber}
 use Rattle.holder_calls.specs.KnownAnswers as HC
 use Rattle.holder_walk_call.specs.KnownAnswers as HW
 use Rattle.numbers.specs.KnownAnswers as N
@@ -110,7 +114,7 @@ pileAnswers =
     is (0 ∷ 0 ∷ 20 ∷ 23 ∷ 0 ∷ []))
     ∷ []
 
--- document 01's order lines of the other calls, where two neighbours hold together
+-- document 01's order lines of the other calls, and the header's of the C calls, where two neighbours hold together
 unfoldable pub orderAnswers : List Case
 orderAnswers =
     -- cipher 1, 2, 3, 4
@@ -131,6 +135,24 @@ orderAnswers =
     ∷ ((makeCallNumber (replicate 11 0) (replicate 25 0) ∷ []) is (1 ∷ []))
     ∷ ((walkCallCode (replicate 26 0) 24 ∷ []) is (24 ∷ []))
     ∷ ((heldSubkeyNumber (replicate 26 0) (replicate 11 0) ∷ []) is (24 ∷ []))
+    -- the empty roll 4, and none where there is just room enough
+    ∷ ((emptyCallNumber (replicate 599 0) ∷ emptyCallNumber (replicate 600 0) ∷ []) is (4 ∷ 0 ∷ []))
+    -- enter on a roll's bytes 3, 6, 7, 21, 22
+    ∷ ((enterCallNumber (replicate 599 0) 0 3 ∷ enterCallNumber (replicate 600 0) 0 3 ∷ enterCallNumber (replicate 600 1) 7 3 ∷ []) is (3 ∷ 6 ∷ 7 ∷ []))
+    -- withdraw 3, 6, 20
+    ∷ ((withdrawCallNumber (replicate 599 0) 0 ∷ withdrawCallNumber (replicate 600 0) 0 ∷ []) is (3 ∷ 6 ∷ []))
+    -- change of right 3, 6, 7, 20
+    ∷ ((changeCallNumber (replicate 599 0) 0 3 ∷ changeCallNumber (replicate 600 0) 0 3 ∷ changeCallNumber (replicate 600 0) 7 3 ∷ []) is (3 ∷ 6 ∷ 7 ∷ []))
+    -- issue 1, 2, 3, 4, 6, 7, 20, 25, of which 2, 3 and 4 with their neighbours
+    ∷ ((issueCallNumber (replicate 12 0) 12 (replicate 599 0) 0 300 3 (replicate 11 0) ∷ []) is (2 ∷ []))
+    ∷ ((issueCallNumber (replicate 12 0) 10 (replicate 599 0) 0 300 3 (replicate 11 0) ∷ []) is (3 ∷ []))
+    ∷ ((issueCallNumber (replicate 12 0) 10 (replicate 600 0) 0 300 3 (replicate 11 0) ∷ []) is (4 ∷ []))
+    -- check 1, 2, 3, 7 and so on, with 3 for the roll
+    ∷ ((callCode (replicate 12 0) 12 (replicate 599 0) (replicate 12 0) 300 3 ∷ []) is (2 ∷ []))
+    ∷ ((callCode (replicate 12 0) 10 (replicate 599 0) (replicate 12 0) 300 3 ∷ []) is (3 ∷ []))
+    -- queue 1, 2, 3, 4, 7, with 3 for the roll
+    ∷ ((callQueueNumber (replicate 12 0) 12 (replicate 599 0) (replicate 12 0) 3 [] ∷ []) is (2 ∷ []))
+    ∷ ((callQueueNumber (replicate 12 0) 10 (replicate 599 0) (replicate 12 0) 3 [] ∷ []) is (3 ∷ []))
     ∷ []
 
 -- all of them

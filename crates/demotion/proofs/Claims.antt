@@ -14,7 +14,8 @@ use Rattle.revocation.specs.Claims.{IssuedOpens, OverwritingOpensReading}
 use Rattle.revocation.proofs.Claims.{issued-opens, overwriting-opens-reading, issued-7, entered-7}
 use Rattle.demotion.specs.Claims.{DemotedNeverOverwrites, OnlyTwoOverwrites, DemotedIsAbove, DemotedStillReads, RaisedAsBefore}
 use Rattle.demotion.specs.Claims.{TwentyFiveOnlyAbove, roll7, grant7, DemotionHappens}
-use Rattle.demotion.proofs.Demoted.{no-overwriting, never-overwrites, above, same-count, same-reading, raised-check, twenty-five, named-by, accepted-as}
+use Rattle.demotion.proofs.Demoted.{no-overwriting, never-overwrites, above, same-count, same-reading}
+use Rattle.demotion.proofs.Demoted.{same-issue, raised-check, twenty-five, named-by, accepted-as}
 
 pub demoted-never-overwrites : DemotedNeverOverwrites
 unfolding DemotedNeverOverwrites
@@ -30,13 +31,19 @@ demoted-is-above roll is c e key rounds grant block named z = above roll is c e 
 
 pub demoted-still-reads : DemotedStillReads
 unfolding DemotedStillReads
-demoted-still-reads roll is c e hs n key rounds grant block named =
+demoted-still-reads roll is c e hs n =
     let other = rollAfter hs (changedRoll roll c 1) in
-    same-reading key rounds roll other grant block (subst (λ (d : ℕ). countOf other d ≡ countOf roll d) (sym named) (same-count roll is c e hs n))
+    let count = same-count roll is c e hs n in
+    record {
+      checks = λ key rounds grant block named.
+          same-reading key rounds roll other grant block (subst (λ (d : ℕ). countOf other d ≡ countOf roll d) (sym named) count);
+      issues = λ key rounds block out. same-issue key rounds roll other c block out count;
+    }
 
 pub raised-as-before : RaisedAsBefore
 unfolding RaisedAsBefore
-raised-as-before roll is c two e key rounds grant block right named = raised-check roll is c e key rounds grant block named two right
+raised-as-before roll is c two e hs n again key rounds grant block right named =
+    raised-check roll is c e key rounds grant block named two hs n again right
 
 pub twenty-five-only-above : TwentyFiveOnlyAbove
 unfolding TwentyFiveOnlyAbove
@@ -68,6 +75,10 @@ withdrawn-by-none = elim [ ]
 not-withdrawn-7 : Withdrawn 7 (change 7 1 ∷ change 7 2 ∷ enter 8 1 ∷ []) (changedRoll roll7 7 1) → ⊥
 not-withdrawn-7 (later (later (later w))) = withdrawn-by-none w
 
+raises-7 : changeNumber (changedRoll roll7 7 1) 7 2 ≡ 0
+unfolding first answered emptyRoll countOf inStanding withEntry enteredRoll changedRoll
+raises-7 = refl
+
 overwriting-7 : figureOf roll7 7 ≡ 2
 unfolding first answered emptyRoll countOf figureOf inStanding withEntry enteredRoll
 overwriting-7 = refl
@@ -82,9 +93,10 @@ demotion-happens =
       opens = opens;
       demoted = demoted-7;
       above = above roll7 entered-7 7 demoted-7 key 10 grant7 300 named (opens .number);
-      reads = accepted-as (demoted-still-reads roll7 entered-7 7 demoted-7 [] withdrawn-by-none key 10 grant7 300 named)
+      reads = accepted-as (demoted-still-reads roll7 entered-7 7 demoted-7 [] withdrawn-by-none .checks key 10 grant7 300 named)
           (overwriting-opens-reading key 10 roll7 grant7 300 7 opens);
       not-raised = not-raised-7;
       not-withdrawn = not-withdrawn-7;
-      raised = accepted-as (raised-check roll7 entered-7 7 demoted-7 key 10 grant7 300 named overwriting-7 2) opens;
+      raises = raises-7;
+      raised = accepted-as (raised-check roll7 entered-7 7 demoted-7 key 10 grant7 300 named overwriting-7 [] withdrawn-by-none raises-7 2) opens;
     }

@@ -4,25 +4,26 @@ use mathlib.Core.Bool.{Bool, true, false}
 use mathlib.Core.List.{List, [], _∷_, _++_}
 use Prim.Native.Nat.{ℕ}
 use native.Mathlib.Omega.{arith}
-use lib.Dec.{eqb, lit<}
+use lib.Dec.{eqb, leb, lit<}
 use lib.ListN.{length}
 use borrow.Author.Tests.{eqb-true}
 use Rattle.refusal.specs.Tries.{Try, _unless_, first}
-use Rattle.refusal.proofs.Tries.{none-given, first-then, first-holds}
+use Rattle.refusal.proofs.Tries.{first-then, first-holds}
 use Rattle.refusal.proofs.Ladder.{all-pass}
 use Rattle.refusal.proofs.Given.{given-by}
 use Rattle.refusal.proofs.Answers.{answer-done}
-use Rattle.rights.specs.Rights.{covers, withinHighest}
+use Rattle.rights.specs.Rights.{isRight, covers, withinHighest}
 use Rattle.rights.proofs.Rights.{covers-overwriting, within-reading, within-overwriting, above-highest}
 use Rattle.roll.specs.declared.Roll.{Roll}
 use Rattle.roll.specs.declared.Entry.{Entry}
-use Rattle.roll.specs.Roll.{countOf, figureOf, entryOf, inStanding}
-use Rattle.roll_changes.specs.Changes.{changeTries, changedEntry, changeNumber, changedRoll}
+use Rattle.roll.specs.Roll.{isContractor, countOf, figureOf, entryOf, inStanding}
+use Rattle.roll_changes.specs.Changes.{changedEntry, changeNumber, changedRoll}
 use Rattle.histories.specs.Histories.{Change, change, changed, rollAfter, Withdrawn, Raised, IsRoll}
-use Rattle.histories.proofs.Calls.{changing, changed-own, changed-roll}
+use Rattle.histories.proofs.Calls.{changing, changed-own, changed-roll, after-roll}
 use Rattle.histories.proofs.Demoted.{stays, stays-low}
 use Rattle.grant.specs.Grants.{contractorIn, countIn, rightIn, isGrant}
-use Rattle.issuing.specs.Issuing.{issueTries}
+use Rattle.settings.specs.Settings.{settingsTries}
+use Rattle.issuing.specs.Issuing.{issueTries, issueNumber}
 use Rattle.judging.specs.Judging.{inputTries, askedTries, plainTries}
 use Rattle.checking.specs.Checking.{openedGrant, checkTries, checkNumber, checkContractor}
 use Rattle.revocation.specs.Claims.{Accepted, SameCheck}
@@ -44,18 +45,18 @@ no-overwriting roll c low = record {
 -- ---- a demotion that is accepted
 module _ (roll : Roll) (is : IsRoll roll) (c : ℕ) (accepted : changeNumber roll c 1 ≡ 0) where
   -- the roll after it
-  pub low-roll : IsRoll (changedRoll roll c 1)
+  low-roll : IsRoll (changedRoll roll c 1)
   unfolding changed
   low-roll = changed-roll (change c 1) roll is
 
-  pub low-entry : entryOf (changedRoll roll c 1) c ≡ changedEntry 1 (entryOf roll c)
+  low-entry : entryOf (changedRoll roll c 1) c ≡ changedEntry 1 (entryOf roll c)
   unfolding changed
   low-entry = changed-own (change c 1) roll is accepted
 
   low-count : countOf (changedRoll roll c 1) c ≡ countOf roll c
   low-count = ap (λ (e : Entry). e .count) low-entry
 
-  pub low-figure : figureOf (changedRoll roll c 1) c ≡ 2 → ⊥
+  low-figure : figureOf (changedRoll roll c 1) c ≡ 2 → ⊥
   low-figure two = omega (arith, ap (λ (e : Entry). e .figure) low-entry, two)
 
   standing : inStanding (countOf roll c) ≡ true
@@ -64,25 +65,26 @@ module _ (roll : Roll) (is : IsRoll roll) (c : ℕ) (accepted : changeNumber rol
   pub never-overwrites : (hs : List Change) → (Raised c hs (changedRoll roll c 1) → ⊥) → NoOverwriting (rollAfter hs (changedRoll roll c 1)) c
   never-overwrites hs n = no-overwriting (rollAfter hs (changedRoll roll c 1)) c (stays-low hs (changedRoll roll c 1) low-roll c low-figure n)
 
-  -- raised again
-  pub raised-entry : figureOf roll c ≡ 2 → entryOf (changedRoll (changedRoll roll c 1) c 2) c ≡ entryOf roll c
-  unfolding changed
-  raised-entry two =
-      let w = changing roll c 1 accepted in
-      let ts = changeTries c 2 (countOf (changedRoll roll c 1) c) in
-      let again = none-given ts (w .contractor, (refl, (ap inStanding low-count ∙ w .standing, tt))) in
-      changed-own (change c 2) (changedRoll roll c 1) low-roll again ∙ (λ i. record { count = low-count i; figure = sym two i })
-
   -- the count over later calls
   pub same-count : (hs : List Change) → (Withdrawn c hs (changedRoll roll c 1) → ⊥) → countOf (rollAfter hs (changedRoll roll c 1)) c ≡ countOf roll c
   same-count hs n = stays hs (changedRoll roll c 1) c (ap inStanding low-count ∙ standing) n ∙ low-count
 
+  -- raised again after them
+  raised-entry : figureOf roll c ≡ 2 → (hs : List Change) → (Withdrawn c hs (changedRoll roll c 1) → ⊥)
+      → changeNumber (rollAfter hs (changedRoll roll c 1)) c 2 ≡ 0 → entryOf (changedRoll (rollAfter hs (changedRoll roll c 1)) c 2) c ≡ entryOf roll c
+  unfolding changed
+  raised-entry two hs n again =
+      changed-own (change c 2) (rollAfter hs (changedRoll roll c 1)) (after-roll hs (changedRoll roll c 1) low-roll) again
+      ∙ (λ i. record { count = same-count hs n i; figure = sym two i })
+
   module _ (key : List ℕ) (rounds : ℕ) (grant : List ℕ) (block : ℕ) (named : contractorIn (openedGrant key rounds grant) ≡ c) where
-    pub raised-check : figureOf roll c ≡ 2 → (right : ℕ) → SameCheck key rounds roll (changedRoll (changedRoll roll c 1) c 2) grant block right
-    raised-check two right =
-        let other = changedRoll (changedRoll roll c 1) c 2 in
+    pub raised-check : figureOf roll c ≡ 2 → (hs : List Change) → (Withdrawn c hs (changedRoll roll c 1) → ⊥)
+        → changeNumber (rollAfter hs (changedRoll roll c 1)) c 2 ≡ 0
+        → (right : ℕ) → SameCheck key rounds roll (changedRoll (rollAfter hs (changedRoll roll c 1)) c 2) grant block right
+    raised-check two hs n again right =
+        let other = changedRoll (rollAfter hs (changedRoll roll c 1)) c 2 in
         same-entry key rounds roll other grant block right
-        (subst (λ (d : ℕ). entryOf other d ≡ entryOf roll d) (sym named) (raised-entry two))
+        (subst (λ (d : ℕ). entryOf other d ≡ entryOf roll d) (sym named) (raised-entry two hs n again))
 
     -- what opened for overwriting passes all that is tried before 25, and not that
     pub above : checkNumber key rounds roll grant block 2 ≡ 0 → checkNumber key rounds (changedRoll roll c 1) grant block 2 ≡ 25
@@ -125,6 +127,15 @@ same-reading key rounds roll other grant block e =
     same-answers key rounds roll other grant block 1
     (ap₂ number e (within-reading (figureOf other c) ∙ sym (within-reading (figureOf roll c))))
 
+-- and so does issuing
+pub same-issue : (key : List ℕ) (rounds : ℕ) (roll other : Roll) (c block : ℕ) (out : List ℕ) → countOf other c ≡ countOf roll c
+    → issueNumber key rounds other c block 1 out ≡ issueNumber key rounds roll c block 1 out
+same-issue key rounds roll other c block out e =
+    let number : ℕ → Bool → ℕ =
+    λ n b. first (settingsTries (length key) rounds
+    ++ ((4 unless leb 12 (length out)) ∷ (6 unless isContractor c) ∷ (7 unless isRight 1) ∷ (20 unless inStanding n) ∷ (25 unless b) ∷ [])) in
+    ap₂ number e (within-reading (figureOf other c) ∙ sym (within-reading (figureOf roll c)))
+
 -- ---- accepted checks
 -- the contractor who is answered is the one whom the grant names
 pub named-by : (key : List ℕ) (rounds : ℕ) (roll : Roll) (grant : List ℕ) (block right c : ℕ) → Accepted key rounds roll grant block right c
@@ -160,7 +171,9 @@ twenty-five key rounds lengths roll grant block right e =
     let t = g .0 .1 .1 .1 .1 in
     record {
       asked = a .0;
+      whole = t .0;
       overwrites = covers-overwriting (rightIn p) (ap (covers (rightIn p)) (sym (a .0)) ∙ t .1 .1 .0);
+      stands = t .1 .1 .1 .0;
       current = eqb-true (countIn p) n (t .1 .1 .1 .1 .0);
       low = a .1;
     }

@@ -1,14 +1,15 @@
 -- What is claimed of demoted contractors: request 6, "Demoting without dropping". Demoting is a change of the highest right to reading, 1; raising is
 -- one to overwriting, 2. A term of each type stands in proofs/Claims.antt.
+use mathlib.Core.Bool.{true}
 use mathlib.Core.Path.{_≡_}
 use mathlib.Core.List.{List, [], _∷_}
 use Prim.Native.Nat.{ℕ}
 use lib.ListN.{replicate}
 use Rattle.roll.specs.declared.Roll.{Roll}
-use Rattle.roll.specs.Roll.{emptyRoll, countOf, figureOf}
+use Rattle.roll.specs.Roll.{emptyRoll, countOf, figureOf, inStanding}
 use Rattle.roll_changes.specs.Changes.{enteredRoll, changeNumber, changedRoll}
 use Rattle.histories.specs.Histories.{Change, enter, change, withdraw, rollAfter, Withdrawn, Raised, IsRoll}
-use Rattle.grant.specs.Grants.{contractorIn, countIn, rightIn}
+use Rattle.grant.specs.Grants.{contractorIn, countIn, rightIn, isGrant}
 use Rattle.issuing.specs.Issuing.{issueNumber, issuedGrant}
 use Rattle.checking.specs.Checking.{openedGrant, checkNumber}
 use Rattle.revocation.specs.Claims.{Accepted, SameCheck}
@@ -37,26 +38,35 @@ DemotedIsAbove = (roll : Roll) → IsRoll roll → (c : ℕ) → changeNumber ro
     → checkNumber key rounds roll grant block 2 ≡ 0 → checkNumber key rounds (changedRoll roll c 1) grant block 2 ≡ 25
 
 -- ---- reading goes on
--- a check of the contractor's grants for reading answers what it answered before the demotion, until the contractor is withdrawn: so it opens for
--- reading what it opened for reading, the grants for overwriting among them
+-- a check of the contractor's grants for reading answers what it answered on the roll before, so that it opens for reading what it opened for reading,
+-- the grants for overwriting among them; and grants for reading are issued as before
+pub record ReadsAs (roll other : Roll) (c : ℕ) : Type 0 where
+  pub checks : (key : List ℕ) (rounds : ℕ) (grant : List ℕ) (block : ℕ) → contractorIn (openedGrant key rounds grant) ≡ c
+      → SameCheck key rounds roll other grant block 1
+  pub issues : (key : List ℕ) (rounds block : ℕ) (out : List ℕ)
+      → issueNumber key rounds other c block 1 out ≡ issueNumber key rounds roll c block 1 out
+
+-- so it is after a demotion, until the contractor is withdrawn
 unfoldable pub DemotedStillReads : Type 0
 DemotedStillReads = (roll : Roll) → IsRoll roll → (c : ℕ) → changeNumber roll c 1 ≡ 0
-    → (hs : List Change) → (Withdrawn c hs (changedRoll roll c 1) → ⊥)
-    → (key : List ℕ) (rounds : ℕ) (grant : List ℕ) (block : ℕ) → contractorIn (openedGrant key rounds grant) ≡ c
-    → SameCheck key rounds roll (rollAfter hs (changedRoll roll c 1)) grant block 1
+    → (hs : List Change) → (Withdrawn c hs (changedRoll roll c 1) → ⊥) → ReadsAs roll (rollAfter hs (changedRoll roll c 1)) c
 
 -- ---- raised again
--- a demotion moves no count, so that raising makes every check what it was: grants for overwriting from before the demotion open again
+-- a demotion moves no count: whatever is called meanwhile, unless the contractor is withdrawn, raising makes every check of their grants what it was
+-- before the demotion, so that those for overwriting open again
 unfoldable pub RaisedAsBefore : Type 0
 RaisedAsBefore = (roll : Roll) → IsRoll roll → (c : ℕ) → figureOf roll c ≡ 2 → changeNumber roll c 1 ≡ 0
+    → (hs : List Change) → (Withdrawn c hs (changedRoll roll c 1) → ⊥) → changeNumber (rollAfter hs (changedRoll roll c 1)) c 2 ≡ 0
     → (key : List ℕ) (rounds : ℕ) (grant : List ℕ) (block right : ℕ) → contractorIn (openedGrant key rounds grant) ≡ c
-    → SameCheck key rounds roll (changedRoll (changedRoll roll c 1) c 2) grant block right
+    → SameCheck key rounds roll (changedRoll (rollAfter hs (changedRoll roll c 1)) c 2) grant block right
 
 -- ---- when 25 is given
--- only where overwriting is asked of a grant to overwrite, in the standing that the roll has, whose contractor's figure is not 2
+-- only where overwriting is asked of a whole grant to overwrite, whose contractor is in standing, in the one written in it, with a figure that is not 2
 pub record Above (key : List ℕ) (rounds : ℕ) (roll : Roll) (grant : List ℕ) (right : ℕ) : Type 0 where
   pub asked : right ≡ 2
+  pub whole : isGrant (openedGrant key rounds grant) ≡ true
   pub overwrites : rightIn (openedGrant key rounds grant) ≡ 2
+  pub stands : inStanding (countOf roll (contractorIn (openedGrant key rounds grant))) ≡ true
   pub current : countIn (openedGrant key rounds grant) ≡ countOf roll (contractorIn (openedGrant key rounds grant))
   pub low : figureOf roll (contractorIn (openedGrant key rounds grant)) ≡ 2 → ⊥
 
@@ -83,7 +93,8 @@ pub record Example : Type 0 where
   pub not-raised : Raised 7 (enter 7 2 ∷ withdraw 7 ∷ enter 7 1 ∷ []) (changedRoll roll7 7 1) → ⊥
   -- and lists in which 7 is not withdrawn
   pub not-withdrawn : Withdrawn 7 (change 7 1 ∷ change 7 2 ∷ enter 8 1 ∷ []) (changedRoll roll7 7 1) → ⊥
-  -- raised again, the grant opens for overwriting
+  -- raised again, which is accepted, the grant opens for overwriting
+  pub raises : changeNumber (changedRoll roll7 7 1) 7 2 ≡ 0
   pub raised : Accepted (replicate 12 0) 10 (changedRoll (changedRoll roll7 7 1) 7 2) grant7 300 2 7
 
 unfoldable pub DemotionHappens : Type 0

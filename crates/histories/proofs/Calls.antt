@@ -20,7 +20,7 @@ use Rattle.roll_changes.specs.Changes.{enterTries, enteredEntry, enterNumber, e
 use Rattle.roll_changes.specs.Changes.{changeTries, changedEntry, changeNumber, changedRoll}
 use Rattle.roll.proofs.Contractors.{a-standing}
 use Rattle.roll.proofs.Entries.{entry-own, entry-other, entry-grows}
-use Rattle.histories.specs.Histories.{Change, enter, change, withdraw, contractorOf, numberOf, changed, rollAfter, IsRoll}
+use Rattle.histories.specs.Histories.{Change, enter, change, withdraw, contractorOf, numberOf, changed, rollAfter, Spares, IsRoll}
 
 -- ---- what is known of a call that is not refused
 pub record Entering (roll : Roll) (c right : ℕ) : Type 0 where
@@ -82,7 +82,7 @@ writes (withdraw c) roll e =
 abbrev pub written-roll : Change → Roll → Roll
 written-roll h roll = withEntry roll (contractorOf h) (newEntry h (entryOf roll (contractorOf h)))
 
-pub changed-is : (h : Change) (roll : Roll) → changed h roll ≡ answered (numberOf h roll) (written-roll h roll) roll
+changed-is : (h : Change) (roll : Roll) → changed h roll ≡ answered (numberOf h roll) (written-roll h roll) roll
 unfolding changed enteredRoll withdrawnRoll changedRoll
 changed-is (enter c r) roll = refl
 changed-is (change c r) roll = refl
@@ -92,7 +92,7 @@ changed-is (withdraw c) roll = refl
 pub changed-either : (P : Roll → Type 0) (h : Change) (roll : Roll) → (numberOf h roll ≡ 0 → P (written-roll h roll)) → P roll → P (changed h roll)
 changed-either P h roll f r = subst⁻¹ P (changed-is h roll) (answer-either P (numberOf h roll) (written-roll h roll) roll f r)
 
-pub changed-done : (h : Change) (roll : Roll) → numberOf h roll ≡ 0 → changed h roll ≡ written-roll h roll
+changed-done : (h : Change) (roll : Roll) → numberOf h roll ≡ 0 → changed h roll ≡ written-roll h roll
 changed-done h roll e = changed-is h roll ∙ sym (is-answered (numberOf h roll) (written-roll h roll) roll e)
 
 pub changed-refused : (h : Change) (roll : Roll) → 0 < numberOf h roll → changed h roll ≡ roll
@@ -109,6 +109,11 @@ pub changed-other : (h : Change) (roll : Roll) (d : ℕ) → (d ≡ contractorOf
 changed-other h roll d n =
     changed-either (λ (r : Roll). entryOf r d ≡ entryOf roll d) h roll
     (λ e. entry-other roll (contractorOf h) (writes h roll e .contractor) _ d n) refl
+
+pub after-other : (hs : List Change) (roll : Roll) (d : ℕ) → Spares d hs → entryOf (rollAfter hs roll) d ≡ entryOf roll d
+unfolding rollAfter
+after-other [] roll d s = refl
+after-other (h ∷ hs) roll d s = after-other hs (changed h roll) d (s .1) ∙ changed-other h roll d (s .0)
 
 -- the contractor's own is the one that is written
 pub changed-own : (h : Change) (roll : Roll) → IsRoll roll → numberOf h roll ≡ 0

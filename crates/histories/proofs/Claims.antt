@@ -5,7 +5,7 @@ use Rattle.roll.specs.Roll.{countOf, inStanding}
 use Rattle.histories.specs.Histories.{enter, change, withdraw, changed}
 use Rattle.histories.specs.Claims.{CountsNeverFall, ChangesMoveNoCount, OthersEntriesStay, RefusedChangesNothing, CallsCount, CallsSetRights}
 use Rattle.histories.specs.Claims.{NothingWraps, NobodyComesBack, WithdrawalCounts, WithdrawsCounts, StandingStays, NotRaisedUnasked}
-use Rattle.histories.proofs.Calls.{entering, withdrawing, changed-other, changed-own, changed-refused, after-roll, empty-roll}
+use Rattle.histories.proofs.Calls.{entering, withdrawing, changed-own, changed-refused, after-other, after-roll, empty-roll}
 use Rattle.histories.proofs.Counts.{after-grows, right-moves-none, entered-own, withdrawn-own, entered-stands}
 use Rattle.histories.proofs.Counts.{withdrawn-out, spent-out, counted-up, asked-counts, spent-stays, not-back}
 use Rattle.histories.proofs.Demoted.{stays, stays-low}
@@ -20,7 +20,7 @@ changes-move-no-count = right-moves-none
 
 pub others-entries-stay : OthersEntriesStay
 unfolding OthersEntriesStay
-others-entries-stay h roll d hd n = changed-other h roll d n
+others-entries-stay = after-other
 
 pub refused-changes-nothing : RefusedChangesNothing
 unfolding RefusedChangesNothing

@@ -38,7 +38,8 @@ own-figure : (h : Change) (hs : List Change) (roll : Roll) → IsRoll roll → (
     → (Raised (contractorOf h) (h ∷ hs) roll → ⊥) → figureOf (changed h roll) (contractorOf h) ≡ 2 → ⊥
 own-figure h hs roll is low n two = by (eqb (numberOf h roll) 0) refl
   where
-    given : (h : Change) → (Raised (contractorOf h) (h ∷ hs) roll → ⊥) → numberOf h roll ≡ 0 → figureOf (changed h roll) (contractorOf h) ≡ 2 → ⊥
+    given : (h : Change) → (Raised (contractorOf h) (h ∷ hs) roll → ⊥) → numberOf h roll ≡ 0
+        → figureOf (changed h roll) (contractorOf h) ≡ 2 → ⊥
     given (enter c r) n z two =
         let e : r ≡ 2 = sym (ap (λ (x : Entry). x .figure) (changed-own (enter c r) roll is z)) ∙ two in
         n (subst⁻¹ (λ (x : ℕ). Raised c (enter c x ∷ hs) roll) e (by-entering (ap (enterNumber roll c) (sym e) ∙ z)))

@@ -7,7 +7,7 @@ use Prim.Native.Nat.{ℕ, _+_, _≤_, _<_}
 use Rattle.roll.specs.declared.Roll.{Roll}
 use Rattle.roll.specs.Roll.{emptyRoll, isContractor, countOf, figureOf, entryOf, inStanding}
 use Rattle.roll_changes.specs.Changes.{enterNumber, enteredRoll, withdrawNumber, withdrawnRoll, changeNumber, changedRoll}
-use Rattle.histories.specs.Histories.{Change, contractorOf, numberOf, changed, rollAfter, Withdrawn, Withdraws, Raised, IsRoll}
+use Rattle.histories.specs.Histories.{Change, numberOf, changed, rollAfter, Withdrawn, Withdraws, Raised, Spares, IsRoll}
 
 -- ---- every call
 -- counts never fall
@@ -18,10 +18,9 @@ CountsNeverFall = (hs : List Change) (roll : Roll) (c : ℕ) → countOf roll c 
 unfoldable pub ChangesMoveNoCount : Type 0
 ChangesMoveNoCount = (roll : Roll) (c right : ℕ) → changedRoll roll c right .counts ≡ roll .counts
 
--- a call changes no other contractor's count and right
+-- calls for others change neither a contractor's count nor their right
 unfoldable pub OthersEntriesStay : Type 0
-OthersEntriesStay = (h : Change) (roll : Roll) (c : ℕ) → isContractor c ≡ true → (c ≡ contractorOf h → ⊥)
-    → entryOf (changed h roll) c ≡ entryOf roll c
+OthersEntriesStay = (hs : List Change) (roll : Roll) (c : ℕ) → Spares c hs → entryOf (rollAfter hs roll) c ≡ entryOf roll c
 
 -- a refused call changes nothing
 unfoldable pub RefusedChangesNothing : Type 0

@@ -49,6 +49,11 @@ pub data Raised (c : ℕ) : List Change → Roll → Type 0 where
   by-entering : {hs : List Change} {roll : Roll} → enterNumber roll c 2 ≡ 0 → Raised c (enter c 2 ∷ hs) roll
   raised-later : {h : Change} {hs : List Change} {roll : Roll} → Raised c hs (changed h roll) → Raised c (h ∷ hs) roll
 
+-- no call of a list is for c
+abbrev pub Spares : ℕ → List Change → Type 0
+Spares c [] = Unit {0}
+Spares c (h ∷ hs) = (c ≡ contractorOf h → ⊥) × Spares c hs
+
 -- zs has the calls of xs and of ys, each in their order: what one roll sees of two rooms
 pub data Merge : List Change → List Change → List Change → Type 0 where
   none : Merge [] [] []

@@ -49,7 +49,7 @@ plain-twelve : (c n b r : ℕ) → length (plainGrant c n b r) ≡ 12
 unfolding plainGrant
 plain-twelve c n b r = refl
 
-issued-twelve : (key : List ℕ) (rounds : ℕ) (roll : Roll) (c b r : ℕ) → length (issuedGrant key rounds roll c b r) ≡ 12
+pub issued-twelve : (key : List ℕ) (rounds : ℕ) (roll : Roll) (c b r : ℕ) → length (issuedGrant key rounds roll c b r) ≡ 12
 unfolding issuedGrant cipherBlock
 issued-twelve key rounds roll c b r = refl
 

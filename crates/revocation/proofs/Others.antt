@@ -12,8 +12,8 @@ use Rattle.refusal.specs.Tries.{first, answered}
 use Rattle.roll.specs.declared.Roll.{Roll}
 use Rattle.roll.specs.declared.Entry.{Entry}
 use Rattle.roll.specs.Roll.{entryOf}
-use Rattle.histories.specs.Histories.{Change, contractorOf, changed}
-use Rattle.histories.proofs.Calls.{changed-other}
+use Rattle.histories.specs.Histories.{Change, rollAfter, Spares}
+use Rattle.histories.proofs.Calls.{after-other}
 use Rattle.grant.specs.declared.Verdict.{Verdict}
 use Rattle.grant.specs.declared.Verdict.the-variants.{Opens, Refused}
 use Rattle.grant.specs.Grants.{contractorIn, verdictNumber, verdictContractor, verdictRight}
@@ -41,11 +41,11 @@ module _ (key : List ℕ) (rounds : ℕ) (roll other : Roll) (grant : List ℕ) 
       same-answers (ap (λ (m : Entry). first (inputTries (length key) rounds (eqb (length grant) 12) asked
       ++ plainTries (openedGrant key rounds grant) m block asked)) e)
 
--- so of another contractor's grant after a call
-pub same-check : (key : List ℕ) (rounds : ℕ) (roll : Roll) (grant : List ℕ) (block asked : ℕ) (h : Change)
-    → (contractorIn (openedGrant key rounds grant) ≡ contractorOf h → ⊥) → SameCheck key rounds roll (changed h roll) grant block asked
-same-check key rounds roll grant block asked h n =
-    same-entry key rounds roll (changed h roll) grant block asked (changed-other h roll (contractorIn (openedGrant key rounds grant)) n)
+-- so of a grant after calls for others
+pub same-check : (key : List ℕ) (rounds : ℕ) (roll : Roll) (grant : List ℕ) (block asked : ℕ) (hs : List Change)
+    → Spares (contractorIn (openedGrant key rounds grant)) hs → SameCheck key rounds roll (rollAfter hs roll) grant block asked
+same-check key rounds roll grant block asked hs s =
+    same-entry key rounds roll (rollAfter hs roll) grant block asked (after-other hs roll (contractorIn (openedGrant key rounds grant)) s)
 
 -- ---- verdicts
 pub verdicts-told : (v w : Verdict)

@@ -12,7 +12,7 @@ use Rattle.sizes.specs.Sizes.{keyLength, roundsAllowed}
 use Rattle.roll.specs.declared.Roll.{Roll}
 use Rattle.roll.specs.Roll.{emptyRoll, countOf, figureOf}
 use Rattle.roll_changes.specs.Changes.{enterTries, enteredRoll, withdrawTries, changeTries}
-use Rattle.histories.specs.Histories.{Change, withdraw, contractorOf, changed, rollAfter, Withdrawn, Withdraws, Merge, IsRoll}
+use Rattle.histories.specs.Histories.{Change, withdraw, rollAfter, Withdrawn, Withdraws, Spares, Merge, IsRoll}
 use Rattle.grant.specs.declared.Verdict.{Verdict}
 use Rattle.rights.specs.Rights.{isRight, covers, highest}
 use Rattle.grant.specs.Grants.{plainGrant, contractorIn, rightIn, isGrant, verdictNumber, verdictContractor, verdictRight}
@@ -143,15 +143,15 @@ RevocationHappens =
     × Withdrawn 7 (withdraw 7 ∷ []) (enteredRoll emptyRoll 7 2)
 
 -- ---- others
--- entering or withdrawing a contractor, or changing their right, changes no check of a grant to another
+-- entering and withdrawing contractors, and changing their rights, changes no check of a grant to another
 pub record SameCheck (key : List ℕ) (rounds : ℕ) (roll other : Roll) (grant : List ℕ) (block right : ℕ) : Type 0 where
   pub number : checkNumber key rounds other grant block right ≡ checkNumber key rounds roll grant block right
   pub answers-contractor : checkContractor key rounds other grant block right ≡ checkContractor key rounds roll grant block right
   pub answers-right : checkRight key rounds other grant block right ≡ checkRight key rounds roll grant block right
 
 unfoldable pub OthersUndisturbed : Type 0
-OthersUndisturbed = (key : List ℕ) (rounds : ℕ) (roll : Roll) (grant : List ℕ) (block right : ℕ) (h : Change)
-    → (contractorIn (openedGrant key rounds grant) ≡ contractorOf h → ⊥) → SameCheck key rounds roll (changed h roll) grant block right
+OthersUndisturbed = (key : List ℕ) (rounds : ℕ) (roll : Roll) (grant : List ℕ) (block right : ℕ) (hs : List Change)
+    → Spares (contractorIn (openedGrant key rounds grant)) hs → SameCheck key rounds roll (rollAfter hs roll) grant block right
 
 -- ---- verdicts
 -- number, contractor and right tell a verdict: so the check's contract fixes it

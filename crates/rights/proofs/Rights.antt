@@ -127,7 +127,8 @@ above-highest asked figure q e = by (one-or-two asked q)
     by (inr z) = (z, λ f. false≢true (sym e ∙ ap (λ (n : ℕ). withinHighest n figure) z ∙ ap (withinHighest 2) f))
 
 -- a right that a right within the highest covers is within it
-pub covered-within : (granted asked figure : ℕ) → covers granted asked ≡ true → withinHighest granted figure ≡ true → withinHighest asked figure ≡ true
+pub covered-within : (granted asked figure : ℕ) → covers granted asked ≡ true → withinHighest granted figure ≡ true
+    → withinHighest asked figure ≡ true
 covered-within granted asked figure c w =
     elim (one-or-two asked (covered-right granted asked c)) [
       | inl z ↦ ap (λ (n : ℕ). withinHighest n figure) z ∙ within-reading figure
