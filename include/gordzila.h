@@ -29,12 +29,16 @@
  * Changes in 0.6.0, for hosts that were written for 0.5, in the order in which to make them:
  *  - Stored rolls. A roll of 0.5 has 400 bytes, the counts. It now has GORDZILA_ROLL_BYTES, and one of 400 is refused with 3. Append
  *    200 bytes to each that is stored, one for each contractor, contractor 1's first: 2 for those who may overwrite, 1 for all others,
- *    everyone who is not in standing among them. Look at the length of what is stored, and not of the buffer that it is read into: any
- *    GORDZILA_ROLL_BYTES are a roll, so that 3 does not catch 400 bytes in a buffer of that size. With zeros after them everyone may
- *    only read; with what happened to stand there, a byte of 2 lets someone overwrite. With 2 for everyone in standing, each grant
- *    opens for what it opened for. With 1 for everyone, every grant for overwriting opens for reading only, until its contractor is
- *    raised with gordzila_change_right or their byte is 2. A host of 0.5 refuses the longer roll with 3: hosts that share a roll change
- *    over together.
+ *    everyone who is not in standing among them ("The roll", below, says who is). No call does it all, but gordzila_change_right helps:
+ *    append 200 bytes of 1, and call it with 2 for each who may overwrite. Where it answers 20, they are not in standing, and 1 stays.
+ *    The tool does it to a roll's file: `gordzila roll convert`.
+ *  - Look at the length of what is stored, and not of the buffer that it is read into: any GORDZILA_ROLL_BYTES are a roll, so that 3 does
+ *    not catch 400 bytes in a buffer of that size. With zeros after them everyone may only read; with what happened to stand there, a
+ *    byte of 2 lets someone overwrite.
+ *  - With 2 for everyone in standing, each grant opens for what it opened for. With 1 for everyone, every grant for overwriting opens
+ *    for reading only, until its contractor is raised with gordzila_change_right.
+ *  - A host of 0.5 refuses the longer roll with 3: hosts that share a roll change over together. Whoever goes back to 0.5 cuts the roll
+ *    to its first 400 bytes, and then everyone who was demoted overwrites again.
  *  - The empty roll. It is no longer all zeros: gordzila_empty_roll is new, and writes it. Zeros throughout are also a roll on which
  *    nobody was ever entered, whose rights of 0 mean reading only. That does no harm, since entering writes the right; but those are not
  *    the agreed bytes.
@@ -196,8 +200,9 @@ uint32_t gordzila_enter(uint8_t *roll, size_t roll_length, uint32_t contractor, 
  * they have already is taken too. Order: 3, 6, 7, 20.
  *
  * A demoted contractor stays in standing. Their grants go on opening for reading, those for overwriting too. Where overwriting is asked
- * for, these are refused with 25, if for no reason before it, until the contractor is raised; a withdrawal ends them. The issue of such
- * a grant is refused with 25 too, until the contractor is raised, or withdrawn and entered again with 2.
+ * for, these are refused with 25 until the contractor is raised; a withdrawal ends them. The issue of such a grant is refused with 25
+ * too, until the contractor is raised, or withdrawn, which makes it 20, and entered again with 2. In both cases another reason is
+ * given where one comes before 25.
  *
  * Beware:
  *  - No count changes, so that a demotion ends no grant. Once the contractor is raised, every grant for overwriting that was issued to

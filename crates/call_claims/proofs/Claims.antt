@@ -9,7 +9,7 @@ use lib.ListN.{length, replicate}
 use borrow.Author.Tests.{eqb-true}
 use Rattle.refusal.specs.Tries.{first, written, answered, NoneHolds}
 use Rattle.refusal.proofs.Tries.{none-given}
-use Rattle.refusal.proofs.Ladder.{all-pass}
+use Rattle.refusal.proofs.Ladder.{all-pass, ordered}
 use Rattle.refusal.proofs.Answers.{starts}
 use Rattle.cipher.specs.Cipher.{cipherBlock}
 use Rattle.roll.specs.Roll.{emptyRoll, countOf, figureOf, inStanding, withEntry}
@@ -28,10 +28,11 @@ use Rattle.checking.specs.Checking.{checkNumber}
 use Rattle.revocation.specs.Claims.{Issued, OpensNothing, IssuedOpens, RevokedNeverOpens, RevokedInTwoRooms}
 use Rattle.revocation.proofs.Claims.{issued-opens, revoked-never-opens, revoked-in-two-rooms}
 use Rattle.check_call.specs.CheckCall.{callCode}
-use Rattle.roll_calls.specs.RollCalls.{enterCallRoll}
+use Rattle.roll_calls.specs.RollCalls.{enterCallRoll, emptyCallTries, enterCallTries, withdrawCallTries, changeCallTries}
 use Rattle.issue_call.specs.IssueCall.{issueCallTries, issueCallNumber, issueCallOutput}
 use Rattle.call_claims.specs.CallHistories.{called, bytesAfter, here, CallIssued, grantGiven}
-use Rattle.call_claims.specs.Claims.{CodesTellVerdicts, ChecksNameContractors, CallInOrder, CallOpensExactlyWhen, CallNeverZero, CallIsCheck}
+use Rattle.call_claims.specs.Claims.{CodesTellVerdicts, ChecksNameContractors, CallInOrder, RollCallsInOrder, CallOpensExactlyWhen}
+use Rattle.call_claims.specs.Claims.{CallNeverZero, CallIsCheck}
 use Rattle.call_claims.specs.Claims.{Holds, BytesFollowRoll, CallChecks, CallIssuedOpens, CallOverwritingOpensReading, CallTenOnlyForOverwriting}
 use Rattle.call_claims.specs.Claims.{bytesWith7, CallAnswersTo7, Refuses, CallsRevoke, CallsRevokeInTwoRooms, CallsRevokeSomething}
 use Rattle.call_claims.proofs.Codes as codes
@@ -52,6 +53,16 @@ checks-name-contractors key rounds roll grant block right (Refused r) n c = tt
 pub call-in-order : CallInOrder
 unfolding CallInOrder
 call-in-order = in-order
+
+pub roll-calls-in-order : RollCallsInOrder
+unfolding RollCallsInOrder
+roll-calls-in-order key rounds roll c block right out = record {
+  empty = ordered (emptyCallTries out) refl;
+  enter = ordered (enterCallTries roll c right) refl;
+  withdraw = ordered (withdrawCallTries roll c) refl;
+  change = ordered (changeCallTries roll c right) refl;
+  issue = ordered (issueCallTries key rounds roll c block right out) refl;
+}
 
 pub call-opens-exactly-when : CallOpensExactlyWhen
 unfolding CallOpensExactlyWhen

@@ -22,6 +22,7 @@ use Rattle.checking.specs.Checking.{openedGrant, entryNow, checkTries, checkNum
 use Rattle.rights.proofs.Rights.{right-least}
 use Rattle.grant.proofs.Tests.{a-grant}
 use Rattle.revocation.specs.Claims.{Opening, Accepted, ReadingGrant, OpensExactlyWhen, OverwritingOpensReading}
+use Rattle.revocation.proofs.Checks.{not-refused}
 use Rattle.revocation.proofs.Looks.{ten}
 use Rattle.revocation.proofs.Claims.{opens-exactly-when, overwriting-opens-reading}
 use Rattle.check_call.specs.CheckCall.{callTries, callCode}
@@ -77,11 +78,16 @@ module _ (key : List ℕ) (rounds : ℕ) (roll grant : List ℕ) (block right : 
       first (inputTries (length key) rounds (b && eqb (length grant) 12) right
       ++ plainTries (openedGrant key rounds grant) (entryNow key rounds (rollOf roll) grant) block right)
 
+  pub call-number : length roll ≡ rollLength
+      → first (callTries key rounds roll grant block right) ≡ checkNumber key rounds (rollOf roll) grant block right
+  unfolding numbered-as
+  call-number l = ap numbered-as (eq-eqb (length roll) rollLength l)
+
   pub is-check : length roll ≡ rollLength → callCode key rounds roll grant block right ≡ checkCode key rounds (rollOf roll) grant block right
-  unfolding callCode checkContractor checkRight numbered-as
+  unfolding callCode checkContractor checkRight
   is-check l =
       let p = openedGrant key rounds grant in
-      ap (λ (b : Bool). answered (numbered-as b) (1000 * right + contractorIn p) (numbered-as b)) (eq-eqb (length roll) rollLength l)
+      ap (λ (n : ℕ). answered n (1000 * right + contractorIn p) n) (call-number l)
       ∙ sym (parts (checkNumber key rounds (rollOf roll) grant block right) right (contractorIn p))
 
   pub never-zero : 1 ≤ callCode key rounds roll grant block right
@@ -145,22 +151,12 @@ module _ (key : List ℕ) (rounds : ℕ) (roll grant : List ℕ) (block right : 
       (checkNumber key rounds (rollOf roll) grant block right) h e)
       ∙ e
 
--- a check that is not refused, by what it answers
-accepted-as : (key : List ℕ) (rounds : ℕ) (roll : Roll) (grant : List ℕ) (block right : ℕ) → checkNumber key rounds roll grant block right ≡ 0
-    → Accepted key rounds roll grant block right (checkContractor key rounds roll grant block right)
-unfolding checkRight
-accepted-as key rounds roll grant block right e = record {
-  number = e;
-  answers-contractor = refl;
-  answers-right = sym (answer-done (checkTries key rounds roll grant block right) right 0 e);
-}
-
 pub call-looks : (key : List ℕ) (rounds : ℕ) (roll grant : List ℕ) (block : ℕ)
     → 1000 ≤ callCode key rounds roll grant block 2 → callCode key rounds roll grant block 2 ≡ 1000 + callCode key rounds roll grant block 1
 unfolding OverwritingOpensReading
 call-looks key rounds roll grant block h =
     let w = call-passed key rounds roll grant block 2 h in
-    let a = accepted-as key rounds (rollOf roll) grant block 2 (w .1) in
+    let a = not-refused key rounds (rollOf roll) grant block 2 (w .1) in
     let c = checkContractor key rounds (rollOf roll) grant block 2 in
     let looks = overwriting-opens-reading key rounds (rollOf roll) grant block c a in
     omega (arith, call-given key rounds roll grant block 2 (w .0) c a, call-given key rounds roll grant block 1 (w .0) c looks)

@@ -19,10 +19,12 @@ use Rattle.rights.specs.Rights.{isRight}
 use Rattle.grant.specs.Grants.{contractorIn, verdictNumber, verdictContractor}
 use Rattle.checking.specs.Checking.{openedGrant, checkNumber, checkContractor, checkRight}
 use Rattle.revocation.specs.Claims.{Opening, ReadingGrant}
+use Rattle.roll_calls.specs.RollCalls.{emptyCallTries, enterCallTries, withdrawCallTries, changeCallTries}
+use Rattle.issue_call.specs.IssueCall.{issueCallTries}
 use Rattle.check_call.specs.CheckCall.{verdictCode, callTries, callCode}
 use Rattle.call_claims.specs.CallHistories.{bytesAfter, CallWithdrawn, CallIssued, grantGiven}
 
--- ---- the check's number
+-- ---- the check's number, and the order of all
 -- a verdict whose contractor, if it has one, is numbered 1 to 200
 abbrev pub OfContractor : Verdict → Type 0
 OfContractor (Opens g) = (1 ≤ g .contractor) × (g .contractor ≤ 200)
@@ -50,7 +52,18 @@ pub record CallOrdered (key : List ℕ) (rounds : ℕ) (roll grant : List ℕ) (
 unfoldable pub CallInOrder : Type 0
 CallInOrder = (key : List ℕ) (rounds : ℕ) (roll grant : List ℕ) (block right : ℕ) → CallOrdered key rounds roll grant block right
 
--- the C call opens, with a number of 1,000 or more, exactly when the bytes are a roll's and the grant opens on the roll read from them
+-- and so do the other calls that take a roll's bytes or write them
+pub record RollCallsOrdered (key : List ℕ) (rounds : ℕ) (roll : List ℕ) (c block right : ℕ) (out : List ℕ) : Type 0 where
+  pub empty : Ordered (emptyCallTries out)
+  pub enter : Ordered (enterCallTries roll c right)
+  pub withdraw : Ordered (withdrawCallTries roll c)
+  pub change : Ordered (changeCallTries roll c right)
+  pub issue : Ordered (issueCallTries key rounds roll c block right out)
+
+unfoldable pub RollCallsInOrder : Type 0
+RollCallsInOrder = (key : List ℕ) (rounds : ℕ) (roll : List ℕ) (c block right : ℕ) (out : List ℕ) → RollCallsOrdered key rounds roll c block right out
+
+-- the check's C call opens, with a number of 1,000 or more, exactly when the bytes are a roll's and the grant opens on the roll read from them
 unfoldable pub CallOpensExactlyWhen : Type 0
 CallOpensExactlyWhen = (key : List ℕ) → AreBytes key → (rounds : ℕ) (roll grant : List ℕ) → AreBytes grant
     → (block : ℕ) → block < 4294967296 → (right : ℕ)

@@ -1,5 +1,5 @@
 -- From what is claimed of checks on a roll by value to queues, and to the C calls on a roll's bytes.
-use mathlib.Core.Path.{_≡_, refl, sym, ap, _∙_, subst, subst⁻¹}
+use mathlib.Core.Path.{_≡_, refl, sym, ap, ap₂, _∙_, subst, subst⁻¹}
 use mathlib.Core.Bool.{Bool, _&&_}
 use mathlib.Core.List.{List, [], _∷_, _++_}
 use Prim.Native.Nat.{ℕ, _+_, _*_, _≤_}
@@ -8,9 +8,11 @@ use lib.Dec.{eqb, leb, lit<}
 use lib.ListN.{length, getD}
 use borrow.Author.Tests.{eqb-true, eq-eqb}
 use Rattle.basics.specs.Bytes.{AreBytes}
-use Rattle.refusal.specs.Tries.{_unless_, first, answered}
+use Rattle.basics.proofs.Tests.{and-first}
+use Rattle.refusal.specs.Tries.{_unless_, first, written, answered}
 use Rattle.refusal.proofs.Tries.{none-given}
 use Rattle.refusal.proofs.Ladder.{all-pass}
+use Rattle.refusal.proofs.Given.{passed-before}
 use Rattle.settings.specs.Settings.{settingsTries}
 use Rattle.rights.specs.Rights.{isRight}
 use Rattle.rights.proofs.Rights.{right-least, within-reading}
@@ -18,33 +20,39 @@ use Rattle.roll.specs.declared.Roll.{Roll}
 use Rattle.roll.specs.Roll.{isContractor, countOf, figureOf, entryOf, inStanding}
 use Rattle.roll_changes.specs.Changes.{changeTries, changeNumber, changedRoll}
 use Rattle.roll_bytes.specs.RollBytes.{rollLength, rollOf}
-use Rattle.histories.specs.Histories.{Change, change, changed, rollAfter, Withdrawn, Raised, IsRoll}
+use Rattle.histories.specs.Histories.{Change, change, changed, rollAfter, Withdrawn, Raised, Spares, IsRoll}
 use Rattle.histories.proofs.Calls.{after-other}
 use Rattle.histories.proofs.Counts.{right-moves-none}
-use Rattle.grant.specs.Grants.{contractorIn}
-use Rattle.issuing.specs.Issuing.{issueTries}
+use Rattle.key_lists.specs.declared.Direction.the-variants.{Enciphering}
+use Rattle.cipher.specs.Cipher.{cipherBlock}
+use Rattle.grant.specs.Grants.{plainGrant, contractorIn}
+use Rattle.issuing.specs.Issuing.{issueTries, issuedGrant}
+use Rattle.judging.specs.Judging.{inputTries}
 use Rattle.checking.specs.Checking.{openedGrant, checkNumber}
 use Rattle.revocation.specs.Claims.{SameCheck}
 use Rattle.demotion.specs.Claims.{NoOverwriting, Above}
-use Rattle.demotion.proofs.Demoted.{never-overwrites, above, same-count, same-reading, raised-check, twenty-five}
+use Rattle.demotion.proofs.Demoted.{never-overwrites, above, same-count, same-reading, raised-check, twenty-five, is-above}
 use Rattle.check_call.specs.CheckCall.{callTries, callCode}
-use Rattle.issue_call.specs.IssueCall.{issueCallTries, issueCallNumber}
+use Rattle.issue_call.specs.IssueCall.{issueCallTries, issueCallNumber, issueCallOutput}
 use Rattle.roll_calls.specs.RollCalls.{changeCallTries, changeCallNumber, changeCallRoll}
 use Rattle.call_claims.specs.CallHistories.{called, bytesAfter, CallWithdrawn, CallRaised}
 use Rattle.call_claims.specs.Claims.{Holds}
-use Rattle.call_claims.proofs.Opens.{refused-with, is-check, call-passed, call-refuses, call-refused}
+use Rattle.call_claims.proofs.Opens.{refused-with, call-number, is-check, call-passed, call-refuses, call-refused}
 use Rattle.call_claims.proofs.Stored.{is-roll, passes-roll, call-holds, after-holds, withdrawn-called, raised-called}
 use Rattle.queue_claims.proofs.Bytes.{answers}
 use Rattle.queue_claims.proofs.Calls.{same-queue, roll-long}
-use Rattle.call_demotion.specs.Claims.{CallsLeave, QueuesNoOverwriting, CallNoOverwriting, CallReadsAs}
+use Rattle.call_demotion.specs.Claims.{QueuesNoOverwriting, CallNoOverwriting, CallReadsAs}
 
 -- ---- counts and others
-pub leaves : (roll : List ℕ) → AreBytes roll → length roll ≡ rollLength → CallsLeave roll
+pub same-counts : (roll : List ℕ) → AreBytes roll → length roll ≡ rollLength
+    → (c right : ℕ) → rollOf (changeCallRoll roll c right) .counts ≡ rollOf roll .counts
 unfolding called changed
-leaves roll small long = record {
-  counts = λ c right. ap (λ (r : Roll). r .counts) (call-holds (change c right) roll small long .read) ∙ right-moves-none (rollOf roll) c right;
-  others = λ hs c s. ap (λ (r : Roll). entryOf r c) (after-holds hs roll small long .read) ∙ after-other hs (rollOf roll) c s;
-}
+same-counts roll small long c right =
+    ap (λ (r : Roll). r .counts) (call-holds (change c right) roll small long .read) ∙ right-moves-none (rollOf roll) c right
+
+pub others-stay : (roll : List ℕ) → AreBytes roll → length roll ≡ rollLength
+    → (hs : List Change) (c : ℕ) → Spares c hs → entryOf (rollOf (bytesAfter hs roll)) c ≡ entryOf (rollOf roll) c
+others-stay roll small long hs c s = ap (λ (r : Roll). entryOf r c) (after-holds hs roll small long .read) ∙ after-other hs (rollOf roll) c s
 
 -- ---- a queue
 pub queues : (roll : Roll) (c : ℕ) → NoOverwriting roll c → QueuesNoOverwriting roll c
@@ -83,6 +91,13 @@ same-number key rounds roll other c block out l m e =
     let a = eq-eqb (length other) rollLength m ∙ sym (eq-eqb (length roll) rollLength l) in
     let b = within-reading (figureOf (rollOf other) c) ∙ sym (within-reading (figureOf (rollOf roll) c)) in
     λ j. number (a j) (e j) (b j)
+
+same-bytes : (key : List ℕ) (rounds : ℕ) (roll other : List ℕ) (c block : ℕ) (out : List ℕ)
+    → length roll ≡ rollLength → length other ≡ rollLength → countOf (rollOf other) c ≡ countOf (rollOf roll) c
+    → issueCallOutput key rounds other c block 1 out ≡ issueCallOutput key rounds roll c block 1 out
+unfolding issueCallOutput issuedGrant
+same-bytes key rounds roll other c block out l m e =
+    ap₂ (λ (n k : ℕ). written n (cipherBlock Enciphering key rounds (plainGrant c k block 1)) out) (same-number key rounds roll other c block out l m e) e
 
 -- ---- a demotion that is accepted
 module _ (roll : List ℕ) (small : AreBytes roll) (c : ℕ) (accepted : changeCallNumber roll c 1 ≡ 0) where
@@ -143,8 +158,9 @@ module _ (roll : List ℕ) (small : AreBytes roll) (c : ℕ) (accepted : changeC
               as-read key rounds grant block named 1 bytes other (after hs)
               (same-reading key rounds (rollOf roll) other grant block (subst (λ (d : ℕ). countOf other d ≡ countOf (rollOf roll) d) (sym named) count));
           issues = λ key rounds block out.
-              same-number key rounds roll bytes c block out long (after hs .long)
-              (ap (λ (r : Roll). countOf r c) (after hs .read) ∙ count);
+              let e = ap (λ (r : Roll). countOf r c) (after hs .read) ∙ count in
+              let l = after hs .long in
+              (same-number key rounds roll bytes c block out long l e, same-bytes key rounds roll bytes c block out long l e);
         }
 
     -- and once raised
@@ -163,12 +179,18 @@ module _ (roll : List ℕ) (small : AreBytes roll) (c : ℕ) (accepted : changeC
         (ap (λ (r : Roll). changeNumber r c 2) (sym (after hs .read)) ∙ on) right)
 
 -- ---- when 25 is answered
-pub call-twenty-five : (key : List ℕ) (rounds : ℕ) (roll grant : List ℕ) (block right : ℕ)
-    → callCode key rounds roll grant block right ≡ 25 → Above key rounds (rollOf roll) grant right
-unfolding callCode
-call-twenty-five key rounds roll grant block right e =
-    let ts = callTries key rounds roll grant block right in
-    let lengths = eqb (length roll) rollLength && eqb (length grant) 12 in
-    twenty-five key rounds lengths (rollOf roll) grant block right
-    (refused-with (first ts) (1000 * right + contractorIn (openedGrant key rounds grant)) 25
-    (λ z. omega (arith, right-least right (all-pass ts refl z .1 .1 .1 .0))) e)
+module _ (key : List ℕ) (rounds : ℕ) (roll grant : List ℕ) (block right : ℕ) where
+  pub call-twenty-five : callCode key rounds roll grant block right ≡ 25
+      → (length roll ≡ rollLength) × Above key rounds (rollOf roll) grant block right
+  unfolding callCode
+  call-twenty-five e =
+      let ts = callTries key rounds roll grant block right in
+      let x = 1000 * right + contractorIn (openedGrant key rounds grant) in
+      let n = refused-with (first ts) x 25 (λ z. omega (arith, right-least right (all-pass ts refl z .1 .1 .1 .0))) e in
+      let lengths = eqb (length roll) rollLength && eqb (length grant) 12 in
+      let past = passed-before 25 (inputTries (length key) rounds lengths right) _ refl n in
+      let l = eqb-true _ _ (and-first (eqb (length roll) rollLength) (eqb (length grant) 12) (past .1 .1 .0)) in
+      (l, twenty-five key rounds (rollOf roll) grant block right (sym (call-number key rounds roll grant block right l) ∙ n))
+
+  pub call-is-above : length roll ≡ rollLength → Above key rounds (rollOf roll) grant block right → callCode key rounds roll grant block right ≡ 25
+  call-is-above l a = call-refused key rounds roll grant block right l 25 (lit< tt) (is-above key rounds (rollOf roll) grant block right a)

@@ -10,7 +10,6 @@ use lib.Seq.{take-all}
 use borrow.Author.Tests.{eq-eqb}
 use Rattle.refusal.specs.Tries.{first, written, answered}
 use Rattle.refusal.proofs.Tries.{none-given}
-use Rattle.refusal.proofs.Ladder.{ordered}
 use Rattle.rights.specs.Rights.{isRight}
 use Rattle.roll.specs.Roll.{emptyRoll, countOf, figureOf, inStanding, withEntry}
 use Rattle.roll_changes.specs.Changes.{enterTries, enteredRoll, changeTries, changedRoll}
@@ -23,8 +22,6 @@ use Rattle.revocation.proofs.Claims.{issued-opens}
 use Rattle.revocation.proofs.Issued.{issued-twelve}
 use Rattle.demotion.proofs.Demoted.{never-overwrites, named-by}
 use Rattle.roll_calls.specs.RollCalls.{enterCallNumber, enterCallRoll, changeCallNumber, changeCallRoll}
-use Rattle.roll_calls.specs.RollCalls.{emptyCallTries, enterCallTries, withdrawCallTries, changeCallTries}
-use Rattle.issue_call.specs.IssueCall.{issueCallTries}
 use Rattle.call_claims.specs.CallHistories.{called, bytesAfter, CallWithdrawn, later, CallRaised, by-entering, raised-later}
 use Rattle.check_call.specs.CheckCall.{callCode}
 use Rattle.queue_parts.specs.QueueParts.{queueLength, grantsIn}
@@ -34,19 +31,18 @@ use Rattle.call_claims.proofs.Stored.{passes-roll, call-holds}
 use Rattle.queue_claims.specs.Claims.{asByte}
 use Rattle.queue_claims.proofs.Calls.{call-answers}
 use Rattle.call_claims.proofs.Claims.{holds-7, issued-7, issued, given, checks}
-use Rattle.call_demotion.specs.Claims.{RollCallsInOrder, CallsLeaveOthers, QueueDemoted, CallsDemote, CallDemotedIsAbove, CallsStillRead}
-use Rattle.call_demotion.specs.Claims.{CallRaisedAsBefore, CallTwentyFiveOnlyAbove, grantTo7, CallsDemoteSomething}
-use Rattle.call_demotion.proofs.Calls.{leaves, queues, call-never-overwrites, call-above, call-reads, call-raised, call-twenty-five}
+use Rattle.call_demotion.specs.Claims.{CallsMoveNoCount, CallsLeaveOthers, QueueDemoted, CallsDemote, CallDemotedIsAbove, CallsStillRead}
+use Rattle.call_demotion.specs.Claims.{CallRaisedAsBefore, CallTwentyFiveExactlyAbove, grantTo7, CallsDemoteSomething}
+use Rattle.call_demotion.proofs.Calls.{same-counts, others-stay, queues, call-never-overwrites, call-above, call-reads, call-raised}
+use Rattle.call_demotion.proofs.Calls.{call-twenty-five, call-is-above}
 
-pub roll-calls-in-order : RollCallsInOrder
-unfolding RollCallsInOrder
-roll-calls-in-order key rounds roll c block right out = record {
-  empty = ordered (emptyCallTries out) refl;
-  enter = ordered (enterCallTries roll c right) refl;
-  withdraw = ordered (withdrawCallTries roll c) refl;
-  change = ordered (changeCallTries roll c right) refl;
-  issue = ordered (issueCallTries key rounds roll c block right out) refl;
-}
+pub calls-move-no-count : CallsMoveNoCount
+unfolding CallsMoveNoCount
+calls-move-no-count = same-counts
+
+pub calls-leave-others : CallsLeaveOthers
+unfolding CallsLeaveOthers
+calls-leave-others = others-stay
 
 pub queue-demoted : QueueDemoted
 unfolding QueueDemoted
@@ -60,10 +56,6 @@ pub call-demoted-is-above : CallDemotedIsAbove
 unfolding CallDemotedIsAbove
 call-demoted-is-above roll small c e key rounds grant block named h = call-above roll small c e key rounds grant block named h
 
-pub calls-leave-others : CallsLeaveOthers
-unfolding CallsLeaveOthers
-calls-leave-others = leaves
-
 pub calls-still-read : CallsStillRead
 unfolding CallsStillRead
 calls-still-read roll small c e hs n = call-reads roll small c e hs n
@@ -73,9 +65,10 @@ unfolding CallRaisedAsBefore
 call-raised-as-before roll small c two e hs n again key rounds grant block right named =
     call-raised roll small c e hs n two again key rounds grant block right named
 
-pub call-twenty-five-only-above : CallTwentyFiveOnlyAbove
-unfolding CallTwentyFiveOnlyAbove
-call-twenty-five-only-above = call-twenty-five
+pub call-twenty-five-exactly-above : CallTwentyFiveExactlyAbove
+unfolding CallTwentyFiveExactlyAbove
+call-twenty-five-exactly-above key rounds roll grant block right =
+    (call-twenty-five key rounds roll grant block right, call-is-above key rounds roll grant block right)
 
 -- ---- the example
 -- what contractor 7 has on the bytes, computed
@@ -111,8 +104,7 @@ low-7 = call-holds (change 7 1) bytesWith7 (holds-7 .small) (holds-7 .long)
 
 low-count-7 : countOf (rollOf (changeCallRoll bytesWith7 7 1)) 7 ≡ 1
 unfolding countOf bytesAfter called enterCallRoll first written answered rollOf countsOf rollBytes countsBytes emptyRoll inStanding withEntry enteredRoll
-low-count-7 =
-    ap (λ (ns : List ℕ). getD ns 6 0) (leaves bytesWith7 (holds-7 .small) (holds-7 .long) .counts 7 1)
+low-count-7 = ap (λ (ns : List ℕ). getD ns 6 0) (same-counts bytesWith7 (holds-7 .small) (holds-7 .long) 7 1)
 
 raises-7 : changeCallNumber (changeCallRoll bytesWith7 7 1) 7 2 ≡ 0
 unfolding first inStanding

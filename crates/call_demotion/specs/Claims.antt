@@ -5,7 +5,6 @@ use mathlib.Core.List.{List, [], _∷_}
 use Prim.Native.Nat.{ℕ, _≤_, _<_}
 use lib.ListN.{length, getD, replicate}
 use Rattle.basics.specs.Bytes.{AreBytes}
-use Rattle.refusal.specs.Claims.{Ordered}
 use Rattle.roll.specs.declared.Roll.{Roll}
 use Rattle.roll.specs.Roll.{figureOf, entryOf}
 use Rattle.roll_changes.specs.Changes.{changeNumber, changedRoll}
@@ -15,34 +14,24 @@ use Rattle.grant.specs.Grants.{contractorIn}
 use Rattle.checking.specs.Checking.{openedGrant}
 use Rattle.demotion.specs.Claims.{Above}
 use Rattle.check_call.specs.CheckCall.{callCode}
-use Rattle.issue_call.specs.IssueCall.{issueCallTries, issueCallNumber}
-use Rattle.roll_calls.specs.RollCalls.{emptyCallTries, enterCallTries, withdrawCallTries, changeCallTries, changeCallNumber, changeCallRoll}
+use Rattle.issue_call.specs.IssueCall.{issueCallNumber, issueCallOutput}
+use Rattle.roll_calls.specs.RollCalls.{changeCallNumber, changeCallRoll}
 use Rattle.queue_parts.specs.QueueParts.{grantsIn, grantAt}
 use Rattle.queue.specs.Queue.{queueNumber, queueOutput}
 use Rattle.queue_call.specs.QueueCall.{callQueueNumber, callQueueOutput}
 use Rattle.call_claims.specs.CallHistories.{bytesAfter, CallWithdrawn, CallRaised, grantGiven}
 use Rattle.call_claims.specs.Claims.{bytesWith7}
 
--- ---- order
--- of the calls on the roll's bytes and of issuing: each refusal has its reason, and the first in order is given
-pub record CallsOrdered (key : List ℕ) (rounds : ℕ) (roll : List ℕ) (c block right : ℕ) (out : List ℕ) : Type 0 where
-  pub empty : Ordered (emptyCallTries out)
-  pub enter : Ordered (enterCallTries roll c right)
-  pub withdraw : Ordered (withdrawCallTries roll c)
-  pub change : Ordered (changeCallTries roll c right)
-  pub issue : Ordered (issueCallTries key rounds roll c block right out)
-
-unfoldable pub RollCallsInOrder : Type 0
-RollCallsInOrder = (key : List ℕ) (rounds : ℕ) (roll : List ℕ) (c block right : ℕ) (out : List ℕ) → CallsOrdered key rounds roll c block right out
-
 -- ---- counts and others
--- on a roll's bytes gordzila_change_right moves no count, nobody's; and calls for others leave a contractor's count and right
-pub record CallsLeave (roll : List ℕ) : Type 0 where
-  pub counts : (c right : ℕ) → rollOf (changeCallRoll roll c right) .counts ≡ rollOf roll .counts
-  pub others : (hs : List Change) (c : ℕ) → Spares c hs → entryOf (rollOf (bytesAfter hs roll)) c ≡ entryOf (rollOf roll) c
+-- on a roll's bytes gordzila_change_right moves no count, nobody's
+unfoldable pub CallsMoveNoCount : Type 0
+CallsMoveNoCount = (roll : List ℕ) → AreBytes roll → length roll ≡ rollLength
+    → (c right : ℕ) → rollOf (changeCallRoll roll c right) .counts ≡ rollOf roll .counts
 
+-- and calls for others leave a contractor's count and right
 unfoldable pub CallsLeaveOthers : Type 0
-CallsLeaveOthers = (roll : List ℕ) → AreBytes roll → length roll ≡ rollLength → CallsLeave roll
+CallsLeaveOthers = (roll : List ℕ) → AreBytes roll → length roll ≡ rollLength
+    → (hs : List Change) (c : ℕ) → Spares c hs → entryOf (rollOf (bytesAfter hs roll)) c ≡ entryOf (rollOf roll) c
 
 -- ---- no overwriting in a queue
 -- on a roll no grant of a contractor's has in a queue that is asked for overwriting a byte of 0, wherever it stands and whatever stands around it
@@ -80,12 +69,13 @@ CallDemotedIsAbove = (roll : List ℕ) → AreBytes roll → (c : ℕ) → chang
     → 1000 ≤ callCode key rounds roll grant block 2 → callCode key rounds (changeCallRoll roll c 1) grant block 2 ≡ 25
 
 -- ---- reading goes on
--- asked for reading, gordzila_check answers what it answered on the bytes before, and so does gordzila_issue
+-- asked for reading, gordzila_check answers what it answered on the bytes before, and gordzila_issue answers and writes what it did
 pub record CallReadsAs (roll other : List ℕ) (c : ℕ) : Type 0 where
   pub checks : (key : List ℕ) (rounds : ℕ) (grant : List ℕ) (block : ℕ) → contractorIn (openedGrant key rounds grant) ≡ c
       → callCode key rounds other grant block 1 ≡ callCode key rounds roll grant block 1
   pub issues : (key : List ℕ) (rounds block : ℕ) (out : List ℕ)
-      → issueCallNumber key rounds other c block 1 out ≡ issueCallNumber key rounds roll c block 1 out
+      → (issueCallNumber key rounds other c block 1 out ≡ issueCallNumber key rounds roll c block 1 out)
+      × (issueCallOutput key rounds other c block 1 out ≡ issueCallOutput key rounds roll c block 1 out)
 
 -- so it is after a demotion, until a gordzila_withdraw of the contractor answers 0
 unfoldable pub CallsStillRead : Type 0
@@ -102,9 +92,11 @@ CallRaisedAsBefore = (roll : List ℕ) → AreBytes roll → (c : ℕ) → figur
     → callCode key rounds (changeCallRoll (bytesAfter hs (changeCallRoll roll c 1)) c 2) grant block right ≡ callCode key rounds roll grant block right
 
 -- ---- when 25 is answered
-unfoldable pub CallTwentyFiveOnlyAbove : Type 0
-CallTwentyFiveOnlyAbove = (key : List ℕ) (rounds : ℕ) (roll grant : List ℕ) (block right : ℕ)
-    → callCode key rounds roll grant block right ≡ 25 → Above key rounds (rollOf roll) grant right
+-- exactly where the bytes are a roll's and the check on the roll read from them gives 25
+unfoldable pub CallTwentyFiveExactlyAbove : Type 0
+CallTwentyFiveExactlyAbove = (key : List ℕ) (rounds : ℕ) (roll grant : List ℕ) (block right : ℕ)
+    → (callCode key rounds roll grant block right ≡ 25 → (length roll ≡ rollLength) × Above key rounds (rollOf roll) grant block right)
+    × (length roll ≡ rollLength → Above key rounds (rollOf roll) grant block right → callCode key rounds roll grant block right ≡ 25)
 
 -- ---- all of this happens
 -- what is asked of a grant to contractor 7, who was entered for overwriting on the bytes of the empty roll, to overwrite size block 300, on the bytes

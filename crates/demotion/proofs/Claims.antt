@@ -3,19 +3,18 @@ use mathlib.Core.Path.{_≡_, refl, sym, subst}
 use mathlib.Core.List.{List, [], _∷_}
 use Prim.Native.Nat.{ℕ}
 use native.Mathlib.Omega.{arith}
-use lib.Dec.{eqb}
-use lib.ListN.{length, replicate}
+use lib.ListN.{replicate}
 use Rattle.refusal.specs.Tries.{first, answered}
 use Rattle.roll.specs.declared.Roll.{Roll}
 use Rattle.roll.specs.Roll.{emptyRoll, countOf, figureOf, inStanding, withEntry}
 use Rattle.roll_changes.specs.Changes.{enteredRoll, changeNumber, changedRoll}
 use Rattle.histories.specs.Histories.{enter, change, withdraw, rollAfter, Withdrawn, later, Raised, by-entering, raised-later}
-use Rattle.revocation.specs.Claims.{IssuedOpens, OverwritingOpensReading}
+use Rattle.revocation.specs.Claims.{IssuedOpens, OverwritingOpensReading, roll7}
 use Rattle.revocation.proofs.Claims.{issued-opens, overwriting-opens-reading, issued-7, entered-7}
 use Rattle.demotion.specs.Claims.{DemotedNeverOverwrites, OnlyTwoOverwrites, DemotedIsAbove, DemotedStillReads, RaisedAsBefore}
-use Rattle.demotion.specs.Claims.{TwentyFiveOnlyAbove, roll7, grant7, DemotionHappens}
+use Rattle.demotion.specs.Claims.{TwentyFiveExactlyAbove, grant7, DemotionHappens}
 use Rattle.demotion.proofs.Demoted.{no-overwriting, never-overwrites, above, same-count, same-reading}
-use Rattle.demotion.proofs.Demoted.{same-issue, raised-check, twenty-five, named-by, accepted-as}
+use Rattle.demotion.proofs.Demoted.{same-issue, same-grant, raised-check, twenty-five, is-above, named-by, accepted-as}
 
 pub demoted-never-overwrites : DemotedNeverOverwrites
 unfolding DemotedNeverOverwrites
@@ -37,7 +36,7 @@ demoted-still-reads roll is c e hs n =
     record {
       checks = λ key rounds grant block named.
           same-reading key rounds roll other grant block (subst (λ (d : ℕ). countOf other d ≡ countOf roll d) (sym named) count);
-      issues = λ key rounds block out. same-issue key rounds roll other c block out count;
+      issues = λ key rounds block out. (same-issue key rounds roll other c block out count, same-grant key rounds roll other c block out count);
     }
 
 pub raised-as-before : RaisedAsBefore
@@ -45,9 +44,10 @@ unfolding RaisedAsBefore
 raised-as-before roll is c two e hs n again key rounds grant block right named =
     raised-check roll is c e key rounds grant block named two hs n again right
 
-pub twenty-five-only-above : TwentyFiveOnlyAbove
-unfolding TwentyFiveOnlyAbove
-twenty-five-only-above key rounds roll grant block right e = twenty-five key rounds (eqb (length grant) 12) roll grant block right e
+pub twenty-five-exactly-above : TwentyFiveExactlyAbove
+unfolding TwentyFiveExactlyAbove
+twenty-five-exactly-above key rounds roll grant block right =
+    (twenty-five key rounds roll grant block right, is-above key rounds roll grant block right)
 
 -- ---- the example
 demoted-7 : changeNumber roll7 7 1 ≡ 0

@@ -6,14 +6,13 @@ use Prim.Native.Nat.{ℕ}
 use native.Mathlib.Omega.{arith}
 use lib.Dec.{eqb, leb, lit<}
 use lib.ListN.{length}
-use borrow.Author.Tests.{eqb-true}
-use Rattle.refusal.specs.Tries.{Try, _unless_, first}
-use Rattle.refusal.proofs.Tries.{first-then, first-holds}
+use Rattle.refusal.specs.Tries.{Try, _unless_, first, written}
+use Rattle.refusal.proofs.Tries.{first-then, first-holds, none-given}
 use Rattle.refusal.proofs.Ladder.{all-pass}
 use Rattle.refusal.proofs.Given.{given-by}
 use Rattle.refusal.proofs.Answers.{answer-done}
 use Rattle.rights.specs.Rights.{isRight, covers, withinHighest}
-use Rattle.rights.proofs.Rights.{covers-overwriting, within-reading, within-overwriting, above-highest}
+use Rattle.rights.proofs.Rights.{covers-reading, covers-overwriting, within-reading, within-overwriting, above-highest}
 use Rattle.roll.specs.declared.Roll.{Roll}
 use Rattle.roll.specs.declared.Entry.{Entry}
 use Rattle.roll.specs.Roll.{isContractor, countOf, figureOf, entryOf, inStanding}
@@ -21,14 +20,18 @@ use Rattle.roll_changes.specs.Changes.{changedEntry, changeNumber, changedRoll}
 use Rattle.histories.specs.Histories.{Change, change, changed, rollAfter, Withdrawn, Raised, IsRoll}
 use Rattle.histories.proofs.Calls.{changing, changed-own, changed-roll, after-roll}
 use Rattle.histories.proofs.Demoted.{stays, stays-low}
-use Rattle.grant.specs.Grants.{contractorIn, countIn, rightIn, isGrant}
+use Rattle.grant.specs.Grants.{plainGrant, contractorIn, countIn, rightIn, isGrant}
+use Rattle.grant.proofs.Tests.{a-grant}
 use Rattle.settings.specs.Settings.{settingsTries}
-use Rattle.issuing.specs.Issuing.{issueTries, issueNumber}
-use Rattle.judging.specs.Judging.{inputTries, askedTries, plainTries}
+use Rattle.key_lists.specs.declared.Direction.the-variants.{Enciphering}
+use Rattle.cipher.specs.Cipher.{cipherBlock}
+use Rattle.issuing.specs.Issuing.{issueTries, issueNumber, issuedGrant, issueOutput}
+use Rattle.judging.specs.Judging.{inputTries, askedTries}
 use Rattle.checking.specs.Checking.{openedGrant, checkTries, checkNumber, checkContractor}
-use Rattle.revocation.specs.Claims.{Accepted, SameCheck}
-use Rattle.revocation.proofs.Checks.{passed}
+use Rattle.revocation.specs.Claims.{Accepted, SameCheck, OverwritingOpensReading, OnlyOverwritingOverwrites}
+use Rattle.revocation.proofs.Checks.{passed, not-refused}
 use Rattle.revocation.proofs.Others.{same-answers, same-entry}
+use Rattle.revocation.proofs.Claims.{overwriting-opens-reading, only-overwriting-overwrites}
 use Rattle.demotion.specs.Claims.{NoOverwriting, Above}
 
 -- ---- a figure that is not 2
@@ -41,6 +44,101 @@ no-overwriting roll c low = record {
   issued = λ key rounds block out z.
       low (within-overwriting (figureOf roll c) (all-pass (issueTries key rounds roll c block 2 out) refl z .1 .1 .1 .1 .1 .1 .0));
 }
+
+-- ---- reading
+-- where two rolls have the same count for the grant's contractor, a check for reading answers the same: no figure is below reading
+pub same-reading : (key : List ℕ) (rounds : ℕ) (roll other : Roll) (grant : List ℕ) (block : ℕ)
+    → countOf other (contractorIn (openedGrant key rounds grant)) ≡ countOf roll (contractorIn (openedGrant key rounds grant))
+    → SameCheck key rounds roll other grant block 1
+same-reading key rounds roll other grant block e =
+    let p = openedGrant key rounds grant in
+    let c = contractorIn p in
+    let number : ℕ → Bool → ℕ =
+    λ n b. first (inputTries (length key) rounds (eqb (length grant) 12) 1
+    ++ ((8 unless isGrant p) ∷ (askedTries p block 1
+    ++ ((20 unless inStanding n) ∷ (23 unless eqb (countIn p) n) ∷ (25 unless b) ∷ [])))) in
+    same-answers key rounds roll other grant block 1
+    (ap₂ number e (within-reading (figureOf other c) ∙ sym (within-reading (figureOf roll c))))
+
+-- and so does issuing
+pub same-issue : (key : List ℕ) (rounds : ℕ) (roll other : Roll) (c block : ℕ) (out : List ℕ) → countOf other c ≡ countOf roll c
+    → issueNumber key rounds other c block 1 out ≡ issueNumber key rounds roll c block 1 out
+same-issue key rounds roll other c block out e =
+    let number : ℕ → Bool → ℕ =
+    λ n b. first (settingsTries (length key) rounds
+    ++ ((4 unless leb 12 (length out)) ∷ (6 unless isContractor c) ∷ (7 unless isRight 1) ∷ (20 unless inStanding n) ∷ (25 unless b) ∷ [])) in
+    ap₂ number e (within-reading (figureOf other c) ∙ sym (within-reading (figureOf roll c)))
+
+pub same-grant : (key : List ℕ) (rounds : ℕ) (roll other : Roll) (c block : ℕ) (out : List ℕ) → countOf other c ≡ countOf roll c
+    → issueOutput key rounds other c block 1 out ≡ issueOutput key rounds roll c block 1 out
+unfolding issueOutput issuedGrant
+same-grant key rounds roll other c block out e =
+    ap₂ (λ (n m : ℕ). written n (cipherBlock Enciphering key rounds (plainGrant c m block 1)) out) (same-issue key rounds roll other c block out e) e
+
+-- ---- accepted checks
+-- the contractor who is answered is the one whom the grant names
+pub named-by : (key : List ℕ) (rounds : ℕ) (roll : Roll) (grant : List ℕ) (block right c : ℕ) → Accepted key rounds roll grant block right c
+    → contractorIn (openedGrant key rounds grant) ≡ c
+unfolding checkContractor
+named-by key rounds roll grant block right c a =
+    answer-done (checkTries key rounds roll grant block right) (contractorIn (openedGrant key rounds grant)) 0 (a .number) ∙ a .answers-contractor
+
+-- what was accepted on one roll is accepted on another where the check is the same
+pub accepted-as : {key : List ℕ} {rounds : ℕ} {roll other : Roll} {grant : List ℕ} {block right c : ℕ}
+    → SameCheck key rounds roll other grant block right → Accepted key rounds roll grant block right c → Accepted key rounds other grant block right c
+accepted-as s a = record {
+  number = s .number ∙ a .number;
+  answers-contractor = s .answers-contractor ∙ a .answers-contractor;
+  answers-right = s .answers-right ∙ a .answers-right;
+}
+
+-- ---- when 25 is given
+not-within : (figure : ℕ) → (figure ≡ 2 → ⊥) → withinHighest 2 figure ≡ false
+not-within figure n = by (withinHighest 2 figure) refl
+  where
+    by : (b : Bool) → withinHighest 2 figure ≡ b → b ≡ false
+    by true e = absurd (n (within-overwriting figure e))
+    by false e = refl
+
+module _ (key : List ℕ) (rounds : ℕ) (roll : Roll) (grant : List ℕ) (block right : ℕ) where
+  p : List ℕ
+  p = openedGrant key rounds grant
+
+  -- all that is tried before it
+  before : List Try
+  before =
+      inputTries (length key) rounds (eqb (length grant) 12) right
+      ++ ((8 unless isGrant p) ∷ (askedTries p block right
+      ++ ((20 unless inStanding (countOf roll (contractorIn p))) ∷ (23 unless eqb (countIn p) (countOf roll (contractorIn p))) ∷ [])))
+
+  pub twenty-five : checkNumber key rounds roll grant block right ≡ 25 → Above key rounds roll grant block right
+  unfolding p before
+  twenty-five e =
+      let g = given-by 25 (lit< tt) (withinHighest right (figureOf roll (contractorIn p))) [] refl before refl e in
+      let h = g .0 in
+      let t = h .1 .1 .1 .1 in
+      let s = t .1 .1 .1 in
+      let a = above-highest right (figureOf roll (contractorIn p)) (h .1 .1 .1 .0) (g .1) in
+      let reading = covers-reading (rightIn p) (a-grant p (t .0) .right) in
+      record {
+        asked = a .0;
+        overwrites = covers-overwriting (rightIn p) (ap (covers (rightIn p)) (sym (a .0)) ∙ t .1 .1 .0);
+        reads = none-given (checkTries key rounds roll grant block 1)
+            (h .0, (h .1 .0, (h .1 .1 .0, (refl, (t .0, (t .1 .0, (reading, (s .0, (s .1 .0, (within-reading _, tt))))))))));
+        low = a .1;
+      }
+
+  pub is-above : Above key rounds roll grant block right → checkNumber key rounds roll grant block right ≡ 25
+  unfolding p before covers
+  is-above a =
+      let h = passed key rounds roll grant block 1 (a .reads) in
+      let t = h .1 .1 .1 .1 in
+      let s = t .1 .1 .1 in
+      let known = ap isRight (a .asked) in
+      let covered = ap₂ covers (a .overwrites) (a .asked) in
+      first-then before ((25 unless withinHighest right (figureOf roll (contractorIn p))) ∷ [])
+      (h .0, (h .1 .0, (h .1 .1 .0, (known, (t .0, (t .1 .0, (covered, (s .0, (s .1 .0, tt)))))))))
+      ∙ first-holds _ _ (ap (λ (r : ℕ). withinHighest r (figureOf roll (contractorIn p))) (a .asked) ∙ not-within _ (a .low))
 
 -- ---- a demotion that is accepted
 module _ (roll : Roll) (is : IsRoll roll) (c : ℕ) (accepted : changeNumber roll c 1 ≡ 0) where
@@ -86,94 +184,17 @@ module _ (roll : Roll) (is : IsRoll roll) (c : ℕ) (accepted : changeNumber rol
         same-entry key rounds roll other grant block right
         (subst (λ (d : ℕ). entryOf other d ≡ entryOf roll d) (sym named) (raised-entry two hs n again))
 
-    -- what opened for overwriting passes all that is tried before 25, and not that
+    -- what opened for overwriting still reads, and is 25
     pub above : checkNumber key rounds roll grant block 2 ≡ 0 → checkNumber key rounds (changedRoll roll c 1) grant block 2 ≡ 25
+    unfolding OverwritingOpensReading OnlyOverwritingOverwrites
     above z =
-        let p = openedGrant key rounds grant in
         let low = changedRoll roll c 1 in
-        let h = passed key rounds roll grant block 2 z in
-        let t = h .1 .1 .1 .1 in
-        let n : countOf roll (contractorIn p) ≡ countOf low (contractorIn p) =
-        ap (countOf roll) named ∙ sym low-count ∙ ap (countOf low) (sym named) in
-        let s = ap inStanding (sym n) ∙ t .1 .1 .1 .0 in
-        let w = ap (eqb (countIn p)) (sym n) ∙ t .1 .1 .1 .1 .0 in
-        let before : List Try =
-        inputTries (length key) rounds (eqb (length grant) 12) 2
-        ++ ((8 unless isGrant p) ∷ (askedTries p block 2
-        ++ ((20 unless inStanding (countOf low (contractorIn p))) ∷ (23 unless eqb (countIn p) (countOf low (contractorIn p))) ∷ []))) in
-        first-then before ((25 unless withinHighest 2 (figureOf low (contractorIn p))) ∷ [])
-        (h .0, (h .1 .0, (h .1 .1 .0, (refl, (t .0, (t .1 .0, (t .1 .1 .0, (s, (w, tt)))))))))
-        ∙ first-holds _ _ (not-within (figureOf low (contractorIn p)) (λ two. low-figure (ap (figureOf low) (sym named) ∙ two)))
-      where
-        not-within : (figure : ℕ) → (figure ≡ 2 → ⊥) → withinHighest 2 figure ≡ false
-        not-within figure n = by (withinHighest 2 figure) refl
-          where
-            by : (b : Bool) → withinHighest 2 figure ≡ b → b ≡ false
-            by true e = absurd (n (within-overwriting figure e))
-            by false e = refl
-
--- ---- reading
--- where two rolls have the same count for the grant's contractor, a check for reading answers the same: no figure is below reading
-pub same-reading : (key : List ℕ) (rounds : ℕ) (roll other : Roll) (grant : List ℕ) (block : ℕ)
-    → countOf other (contractorIn (openedGrant key rounds grant)) ≡ countOf roll (contractorIn (openedGrant key rounds grant))
-    → SameCheck key rounds roll other grant block 1
-same-reading key rounds roll other grant block e =
-    let p = openedGrant key rounds grant in
-    let c = contractorIn p in
-    let number : ℕ → Bool → ℕ =
-    λ n b. first (inputTries (length key) rounds (eqb (length grant) 12) 1
-    ++ ((8 unless isGrant p) ∷ (askedTries p block 1
-    ++ ((20 unless inStanding n) ∷ (23 unless eqb (countIn p) n) ∷ (25 unless b) ∷ [])))) in
-    same-answers key rounds roll other grant block 1
-    (ap₂ number e (within-reading (figureOf other c) ∙ sym (within-reading (figureOf roll c))))
-
--- and so does issuing
-pub same-issue : (key : List ℕ) (rounds : ℕ) (roll other : Roll) (c block : ℕ) (out : List ℕ) → countOf other c ≡ countOf roll c
-    → issueNumber key rounds other c block 1 out ≡ issueNumber key rounds roll c block 1 out
-same-issue key rounds roll other c block out e =
-    let number : ℕ → Bool → ℕ =
-    λ n b. first (settingsTries (length key) rounds
-    ++ ((4 unless leb 12 (length out)) ∷ (6 unless isContractor c) ∷ (7 unless isRight 1) ∷ (20 unless inStanding n) ∷ (25 unless b) ∷ [])) in
-    ap₂ number e (within-reading (figureOf other c) ∙ sym (within-reading (figureOf roll c)))
-
--- ---- accepted checks
--- the contractor who is answered is the one whom the grant names
-pub named-by : (key : List ℕ) (rounds : ℕ) (roll : Roll) (grant : List ℕ) (block right c : ℕ) → Accepted key rounds roll grant block right c
-    → contractorIn (openedGrant key rounds grant) ≡ c
-unfolding checkContractor
-named-by key rounds roll grant block right c a =
-    answer-done (checkTries key rounds roll grant block right) (contractorIn (openedGrant key rounds grant)) 0 (a .number) ∙ a .answers-contractor
-
--- what was accepted on one roll is accepted on another where the check is the same
-pub accepted-as : {key : List ℕ} {rounds : ℕ} {roll other : Roll} {grant : List ℕ} {block right c : ℕ}
-    → SameCheck key rounds roll other grant block right → Accepted key rounds roll grant block right c → Accepted key rounds other grant block right c
-accepted-as s a = record {
-  number = s .number ∙ a .number;
-  answers-contractor = s .answers-contractor ∙ a .answers-contractor;
-  answers-right = s .answers-right ∙ a .answers-right;
-}
-
--- ---- when 25 is given
--- of any input, and of any entry: so of the check, and of the C call on a roll's bytes
-pub twenty-five : (key : List ℕ) (rounds : ℕ) (lengths : Bool) (roll : Roll) (grant : List ℕ) (block right : ℕ)
-    → first (inputTries (length key) rounds lengths right
-    ++ plainTries (openedGrant key rounds grant) (entryOf roll (contractorIn (openedGrant key rounds grant))) block right) ≡ 25
-    → Above key rounds roll grant right
-twenty-five key rounds lengths roll grant block right e =
-    let p = openedGrant key rounds grant in
-    let n = countOf roll (contractorIn p) in
-    let f = figureOf roll (contractorIn p) in
-    let before : List Try =
-    inputTries (length key) rounds lengths right
-    ++ ((8 unless isGrant p) ∷ (askedTries p block right ++ ((20 unless inStanding n) ∷ (23 unless eqb (countIn p) n) ∷ []))) in
-    let g = given-by 25 (lit< tt) (withinHighest right f) [] refl before refl e in
-    let a = above-highest right f (g .0 .1 .1 .1 .0) (g .1) in
-    let t = g .0 .1 .1 .1 .1 in
-    record {
-      asked = a .0;
-      whole = t .0;
-      overwrites = covers-overwriting (rightIn p) (ap (covers (rightIn p)) (sym (a .0)) ∙ t .1 .1 .0);
-      stands = t .1 .1 .1 .0;
-      current = eqb-true (countIn p) n (t .1 .1 .1 .1 .0);
-      low = a .1;
-    }
+        let reads = overwriting-opens-reading key rounds roll grant block _ (not-refused key rounds roll grant block 2 z) .number in
+        let same = same-reading key rounds roll low grant block (subst (λ (d : ℕ). countOf low d ≡ countOf roll d) (sym named) low-count) in
+        is-above key rounds low grant block 2
+        record {
+          asked = refl;
+          overwrites = only-overwriting-overwrites key rounds roll grant block z;
+          reads = same .number ∙ reads;
+          low = λ two. low-figure (ap (figureOf low) (sym named) ∙ two);
+        }

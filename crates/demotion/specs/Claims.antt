@@ -1,18 +1,17 @@
 -- What is claimed of demoted contractors: request 6, "Demoting without dropping". Demoting is a change of the highest right to reading, 1; raising is
 -- one to overwriting, 2. A term of each type stands in proofs/Claims.antt.
-use mathlib.Core.Bool.{true}
 use mathlib.Core.Path.{_≡_}
 use mathlib.Core.List.{List, [], _∷_}
 use Prim.Native.Nat.{ℕ}
 use lib.ListN.{replicate}
 use Rattle.roll.specs.declared.Roll.{Roll}
-use Rattle.roll.specs.Roll.{emptyRoll, countOf, figureOf, inStanding}
-use Rattle.roll_changes.specs.Changes.{enteredRoll, changeNumber, changedRoll}
+use Rattle.roll.specs.Roll.{figureOf}
+use Rattle.roll_changes.specs.Changes.{changeNumber, changedRoll}
 use Rattle.histories.specs.Histories.{Change, enter, change, withdraw, rollAfter, Withdrawn, Raised, IsRoll}
-use Rattle.grant.specs.Grants.{contractorIn, countIn, rightIn, isGrant}
-use Rattle.issuing.specs.Issuing.{issueNumber, issuedGrant}
+use Rattle.grant.specs.Grants.{contractorIn, rightIn}
+use Rattle.issuing.specs.Issuing.{issueNumber, issuedGrant, issueOutput}
 use Rattle.checking.specs.Checking.{openedGrant, checkNumber}
-use Rattle.revocation.specs.Claims.{Accepted, SameCheck}
+use Rattle.revocation.specs.Claims.{Accepted, SameCheck, roll7}
 
 -- ---- no overwriting
 -- on a roll no grant of a contractor's opens for overwriting, under any key and round count and for any size block, whenever it was issued; and none is
@@ -39,12 +38,13 @@ DemotedIsAbove = (roll : Roll) → IsRoll roll → (c : ℕ) → changeNumber ro
 
 -- ---- reading goes on
 -- a check of the contractor's grants for reading answers what it answered on the roll before, so that it opens for reading what it opened for reading,
--- the grants for overwriting among them; and grants for reading are issued as before
+-- the grants for overwriting among them; and issuing them a grant for reading answers and writes what it did
 pub record ReadsAs (roll other : Roll) (c : ℕ) : Type 0 where
   pub checks : (key : List ℕ) (rounds : ℕ) (grant : List ℕ) (block : ℕ) → contractorIn (openedGrant key rounds grant) ≡ c
       → SameCheck key rounds roll other grant block 1
   pub issues : (key : List ℕ) (rounds block : ℕ) (out : List ℕ)
-      → issueNumber key rounds other c block 1 out ≡ issueNumber key rounds roll c block 1 out
+      → (issueNumber key rounds other c block 1 out ≡ issueNumber key rounds roll c block 1 out)
+      × (issueOutput key rounds other c block 1 out ≡ issueOutput key rounds roll c block 1 out)
 
 -- so it is after a demotion, until the contractor is withdrawn
 unfoldable pub DemotedStillReads : Type 0
@@ -61,24 +61,21 @@ RaisedAsBefore = (roll : Roll) → IsRoll roll → (c : ℕ) → figureOf roll c
     → SameCheck key rounds roll (changedRoll (rollAfter hs (changedRoll roll c 1)) c 2) grant block right
 
 -- ---- when 25 is given
--- only where overwriting is asked of a whole grant to overwrite, whose contractor is in standing, in the one written in it, with a figure that is not 2
-pub record Above (key : List ℕ) (rounds : ℕ) (roll : Roll) (grant : List ℕ) (right : ℕ) : Type 0 where
+-- exactly where overwriting is asked of a grant to overwrite that opens the size block for reading, so that all else holds that opening asks for, and
+-- whose contractor's figure is not 2
+pub record Above (key : List ℕ) (rounds : ℕ) (roll : Roll) (grant : List ℕ) (block right : ℕ) : Type 0 where
   pub asked : right ≡ 2
-  pub whole : isGrant (openedGrant key rounds grant) ≡ true
   pub overwrites : rightIn (openedGrant key rounds grant) ≡ 2
-  pub stands : inStanding (countOf roll (contractorIn (openedGrant key rounds grant))) ≡ true
-  pub current : countIn (openedGrant key rounds grant) ≡ countOf roll (contractorIn (openedGrant key rounds grant))
+  pub reads : checkNumber key rounds roll grant block 1 ≡ 0
   pub low : figureOf roll (contractorIn (openedGrant key rounds grant)) ≡ 2 → ⊥
 
-unfoldable pub TwentyFiveOnlyAbove : Type 0
-TwentyFiveOnlyAbove = (key : List ℕ) (rounds : ℕ) (roll : Roll) (grant : List ℕ) (block right : ℕ)
-    → checkNumber key rounds roll grant block right ≡ 25 → Above key rounds roll grant right
+unfoldable pub TwentyFiveExactlyAbove : Type 0
+TwentyFiveExactlyAbove = (key : List ℕ) (rounds : ℕ) (roll : Roll) (grant : List ℕ) (block right : ℕ)
+    → (checkNumber key rounds roll grant block right ≡ 25 → Above key rounds roll grant block right)
+    × (Above key rounds roll grant block right → checkNumber key rounds roll grant block right ≡ 25)
 
 -- ---- all of this happens
--- under a key of twelve zeros with ten rounds, contractor 7 is entered for overwriting on an empty roll and gets a grant to overwrite size block 300
-abbrev pub roll7 : Roll
-roll7 = enteredRoll emptyRoll 7 2
-
+-- under a key of twelve zeros with ten rounds, contractor 7, entered for overwriting on an empty roll, gets a grant to overwrite size block 300
 abbrev pub grant7 : List ℕ
 grant7 = issuedGrant (replicate 12 0) 10 roll7 7 300 2
 

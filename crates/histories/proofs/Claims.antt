@@ -42,7 +42,7 @@ pub calls-set-rights : CallsSetRights
 unfolding CallsSetRights changed
 calls-set-rights roll r c = record {
   entered = λ right e. ap (λ (x : Entry). x .figure) (changed-own (enter c right) roll r e);
-  changed = λ right e. ap (λ (x : Entry). x .figure) (changed-own (change c right) roll r e);
+  given = λ right e. ap (λ (x : Entry). x .figure) (changed-own (change c right) roll r e);
   withdrawn = λ e. ap (λ (x : Entry). x .figure) (changed-own (withdraw c) roll r e);
 }
 

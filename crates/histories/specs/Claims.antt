@@ -37,13 +37,13 @@ unfoldable pub CallsCount : Type 0
 CallsCount = (roll : Roll) → IsRoll roll → (c : ℕ) → Counts roll c
 
 -- and the right is the one that was given, on entering and when it is changed, also where it was held already; it is 1 after a withdrawal
-pub record Rights (roll : Roll) (c : ℕ) : Type 0 where
+pub record SetsRight (roll : Roll) (c : ℕ) : Type 0 where
   pub entered : (right : ℕ) → enterNumber roll c right ≡ 0 → figureOf (enteredRoll roll c right) c ≡ right
-  pub changed : (right : ℕ) → changeNumber roll c right ≡ 0 → figureOf (changedRoll roll c right) c ≡ right
+  pub given : (right : ℕ) → changeNumber roll c right ≡ 0 → figureOf (changedRoll roll c right) c ≡ right
   pub withdrawn : withdrawNumber roll c ≡ 0 → figureOf (withdrawnRoll roll c) c ≡ 1
 
 unfoldable pub CallsSetRights : Type 0
-CallsSetRights = (roll : Roll) → IsRoll roll → (c : ℕ) → Rights roll c
+CallsSetRights = (roll : Roll) → IsRoll roll → (c : ℕ) → SetsRight roll c
 
 -- counts keep to 16 bits, so that none wraps, and rights to a byte; the empty roll has such counts and rights
 unfoldable pub NothingWraps : Type 0

@@ -58,6 +58,16 @@ module _ (key : List ℕ) (rounds : ℕ) (roll : Roll) (grant : List ℕ) (block
   pub passed : checkNumber key rounds roll grant block right ≡ 0 → NoneHolds (checkTries key rounds roll grant block right)
   passed e = all-pass (checkTries key rounds roll grant block right) refl e
 
+  -- a check that is not refused is accepted, with what it answers
+  pub not-refused : checkNumber key rounds roll grant block right ≡ 0
+      → Accepted key rounds roll grant block right (checkContractor key rounds roll grant block right)
+  unfolding checkRight
+  not-refused e = record {
+    number = e;
+    answers-contractor = refl;
+    answers-right = sym (answer-done (checkTries key rounds roll grant block right) right 0 e);
+  }
+
   -- the grant's contractor is in standing
   pub stands : checkNumber key rounds roll grant block right ≡ 0 → inStanding (countOf roll (contractorIn (openedGrant key rounds grant))) ≡ true
   stands e = passed e .1 .1 .1 .1 .1 .1 .1 .0

@@ -19,7 +19,7 @@ use Rattle.issuing.specs.Issuing.{issueTries}
 use Rattle.checking.specs.Checking.{entryNow, checkTries}
 use Rattle.revocation.specs.Claims.{Issued, OpensExactlyWhen, EachRefusalFirst, IssuedOpens, OverwritingOpensReading, ReadingDoesNotOverwrite}
 use Rattle.revocation.specs.Claims.{OnlyOverwritingOverwrites, TenOnlyForOverwriting, RevokedNeverOpens, RevokedInTwoRooms, RevocationHappens}
-use Rattle.revocation.specs.Claims.{OthersUndisturbed, NumbersTellVerdicts}
+use Rattle.revocation.specs.Claims.{OthersUndisturbed, NumbersTellVerdicts, roll7}
 use Rattle.revocation.proofs.Checks.{opening, accepted}
 use Rattle.revocation.proofs.Issued.{checks, revoked, revoked-asked}
 use Rattle.revocation.proofs.Looks.{looks, overwrites, ten}
@@ -45,10 +45,10 @@ unfolding IssuedOpens
 issued-opens = checks
 
 -- contractor 7, entered for overwriting on an empty roll, gets a grant with either right
-pub issued-7 : (right : ℕ) → isRight right ≡ true → Issued (replicate 12 0) 10 (enteredRoll emptyRoll 7 2) 7 300 right (replicate 12 0)
+pub issued-7 : (right : ℕ) → isRight right ≡ true → Issued (replicate 12 0) 10 roll7 7 300 right (replicate 12 0)
 unfolding first answered emptyRoll countOf figureOf inStanding withEntry enteredRoll
 issued-7 right q =
-    let tries = issueTries (replicate 12 0) 10 (enteredRoll emptyRoll 7 2) 7 300 right (replicate 12 0) in
+    let tries = issueTries (replicate 12 0) 10 roll7 7 300 right (replicate 12 0) in
     record {
       key-bytes = zeros-small (lit< tt) 12;
       block-small = lit< tt;
@@ -62,7 +62,7 @@ overwriting-opens-reading = looks
 pub reading-does-not-overwrite : ReadingDoesNotOverwrite
 unfolding ReadingDoesNotOverwrite
 reading-does-not-overwrite =
-    let c = checks (replicate 12 0) 10 (enteredRoll emptyRoll 7 2) 7 300 1 (replicate 12 0) (issued-7 1 refl) in
+    let c = checks (replicate 12 0) 10 roll7 7 300 1 (replicate 12 0) (issued-7 1 refl) in
     (c .opens, c .only-reads refl)
 
 pub only-overwriting-overwrites : OnlyOverwritingOverwrites
@@ -83,7 +83,7 @@ unfolding RevokedInTwoRooms
 revoked-in-two-rooms key rounds roll contractor block right out i z xs ys zs m w =
     revoked-asked key rounds roll contractor block right out i z zs (elim w [ inl l ↦ left-seen m l | inr r ↦ right-seen m r ])
 
-pub entered-7 : IsRoll (enteredRoll emptyRoll 7 2)
+pub entered-7 : IsRoll roll7
 unfolding changed
 entered-7 = changed-roll (enter 7 2) emptyRoll empty-roll
 

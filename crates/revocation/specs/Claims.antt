@@ -92,12 +92,16 @@ unfoldable pub OverwritingOpensReading : Type 0
 OverwritingOpensReading = (key : List ℕ) (rounds : ℕ) (roll : Roll) (grant : List ℕ) (block contractor : ℕ)
     → Accepted key rounds roll grant block 2 contractor → Accepted key rounds roll grant block 1 contractor
 
--- not the other way round. Under a key of twelve zeros with ten rounds, contractor 7 is entered for overwriting on an empty roll and gets a grant to
--- read size block 300: it opens for reading, and asked for overwriting it is refused with 10
+-- the roll of the examples: the empty roll, on which contractor 7 was entered for overwriting
+abbrev pub roll7 : Roll
+roll7 = enteredRoll emptyRoll 7 2
+
+-- not the other way round. Under a key of twelve zeros with ten rounds, contractor 7 gets a grant to read size block 300: it opens for reading, and
+-- asked for overwriting it is refused with 10
 unfoldable pub ReadingDoesNotOverwrite : Type 0
 ReadingDoesNotOverwrite =
-    Accepted (replicate 12 0) 10 (enteredRoll emptyRoll 7 2) (issuedGrant (replicate 12 0) 10 (enteredRoll emptyRoll 7 2) 7 300 1) 300 1 7
-    × (checkNumber (replicate 12 0) 10 (enteredRoll emptyRoll 7 2) (issuedGrant (replicate 12 0) 10 (enteredRoll emptyRoll 7 2) 7 300 1) 300 2 ≡ 10)
+    Accepted (replicate 12 0) 10 roll7 (issuedGrant (replicate 12 0) 10 roll7 7 300 1) 300 1 7
+    × (checkNumber (replicate 12 0) 10 roll7 (issuedGrant (replicate 12 0) 10 roll7 7 300 1) 300 2 ≡ 10)
 
 -- only a grant to overwrite opens for overwriting
 unfoldable pub OnlyOverwritingOverwrites : Type 0
@@ -135,20 +139,18 @@ RevokedInTwoRooms = (key : List ℕ) (rounds : ℕ) (roll : Roll) (contractor bl
     → (xs ys zs : List Change) → Merge xs ys zs → Withdraws contractor xs ⊎ Withdraws contractor ys
     → OpensNothing key rounds (rollAfter zs roll) (issuedGrant key rounds roll contractor block right)
 
--- there are such issues and withdrawals: under a key of twelve zeros with ten rounds, contractor 7 is entered for overwriting on an empty roll, gets a
--- grant, and is withdrawn
+-- there are such issues and withdrawals: under a key of twelve zeros with ten rounds contractor 7 gets a grant, and is withdrawn
 unfoldable pub RevocationHappens : Type 0
-RevocationHappens =
-    (Issued (replicate 12 0) 10 (enteredRoll emptyRoll 7 2) 7 300 2 (replicate 12 0) × IsRoll (enteredRoll emptyRoll 7 2))
-    × Withdrawn 7 (withdraw 7 ∷ []) (enteredRoll emptyRoll 7 2)
+RevocationHappens = (Issued (replicate 12 0) 10 roll7 7 300 2 (replicate 12 0) × IsRoll roll7) × Withdrawn 7 (withdraw 7 ∷ []) roll7
 
 -- ---- others
--- entering and withdrawing contractors, and changing their rights, changes no check of a grant to another
+-- a check answers the same on both rolls
 pub record SameCheck (key : List ℕ) (rounds : ℕ) (roll other : Roll) (grant : List ℕ) (block right : ℕ) : Type 0 where
   pub number : checkNumber key rounds other grant block right ≡ checkNumber key rounds roll grant block right
   pub answers-contractor : checkContractor key rounds other grant block right ≡ checkContractor key rounds roll grant block right
   pub answers-right : checkRight key rounds other grant block right ≡ checkRight key rounds roll grant block right
 
+-- entering and withdrawing contractors, and changing their rights, changes no check of a grant to another
 unfoldable pub OthersUndisturbed : Type 0
 OthersUndisturbed = (key : List ℕ) (rounds : ℕ) (roll : Roll) (grant : List ℕ) (block right : ℕ) (hs : List Change)
     → Spares (contractorIn (openedGrant key rounds grant)) hs → SameCheck key rounds roll (rollAfter hs roll) grant block right

@@ -22,6 +22,6 @@ covers granted asked = (eqb asked 1 && isRight granted) || (eqb asked 2 && eqb g
 unfoldable pub highest : ℕ → ℕ
 highest figure = cond (eqb figure 2) 2 1
 
--- the right asked for is not above the highest
+-- the right asked for, which is the first number, is not above the highest that the figure stands for
 unfoldable pub withinHighest : ℕ → ℕ → Bool
 withinHighest asked figure = leb asked (highest figure)

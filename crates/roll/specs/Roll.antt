@@ -30,6 +30,6 @@ entryOf roll c = record { count = countOf roll c; figure = figureOf roll c }
 unfoldable pub inStanding : ℕ → Bool
 inStanding n = eqb (n % 2) 1 && ltb n 65535
 
--- the roll with another entry for a contractor
+-- the roll with another entry for a contractor. It is asked for contractors alone: 0 would be taken for contractor 1
 unfoldable pub withEntry : Roll → ℕ → Entry → Roll
 withEntry roll c entry = record { counts = set (roll .counts) (c - 1) (entry .count); rights = set (roll .rights) (c - 1) (entry .figure) }
