@@ -17,8 +17,8 @@
  *    return 0: a refusal is 1 to 25, and any other answer 1000 or more; that of gordzila_open_page is 2^63 or more, and takes 64 bits.
  *    gordzila_check_queue returns 0 whether or not a grant of its queue opens; that stands in answers.
  *  - Where it does not refuse, it writes the bytes that are said below, from the start of out or answers, and no byte after them;
- *    entering, withdrawing and changing a right write the roll's bytes, steps and walks the holder's 26, sealing and opening a page
- *    also clear the first 576 bytes of scratch.
+ *    entering, withdrawing and changing a right write the contractor's entry on the roll and leave all its other bytes, steps and walks
+ *    the holder's 26, sealing and opening a page also clear the first 576 bytes of scratch.
  *  - A withdrawal or a change of a right is seen only on the roll on which it was made. Hand gordzila_issue, gordzila_check and
  *    gordzila_check_queue the roll as it is now: on an older copy, or on a roll that starts anew, grants that were revoked may open, and
  *    contractors who were demoted may overwrite.
@@ -27,28 +27,37 @@
  *  - Their time depends on the key and the data: they are not made to resist an observer of time.
  *
  * Changes in 0.6.0, for hosts that were written for 0.5, in the order in which to make them:
- *  - Stored rolls. A roll of 0.5 has 400 bytes, the counts. It now has GORDZILA_ROLL_BYTES, and one of 400 is refused with 3. Append
- *    200 bytes to each that is stored, one for each contractor, contractor 1's first: 2 for those who may overwrite, 1 for all others,
- *    everyone who is not in standing among them ("The roll", below, says who is). No call does it all, but gordzila_change_right helps:
- *    append 200 bytes of 1, and call it with 2 for each who may overwrite. Where it answers 20, they are not in standing, and 1 stays.
- *    The tool does it to a roll's file: `gordzila roll convert`.
- *  - Look at the length of what is stored, and not of the buffer that it is read into: any GORDZILA_ROLL_BYTES are a roll, so that 3 does
- *    not catch 400 bytes in a buffer of that size. With zeros after them everyone may only read; with what happened to stand there, a
- *    byte of 2 lets someone overwrite.
- *  - With 2 for everyone in standing, each grant opens for what it opened for. With 1 for everyone, every grant for overwriting opens
- *    for reading only, until its contractor is raised with gordzila_change_right.
- *  - A host of 0.5 refuses the longer roll with 3: hosts that share a roll change over together. Whoever goes back to 0.5 cuts the roll
- *    to its first 400 bytes, and then everyone who was demoted overwrites again.
- *  - The empty roll. It is no longer all zeros: gordzila_empty_roll is new, and writes it. Zeros throughout are also a roll on which
- *    nobody was ever entered, whose rights of 0 mean reading only. That does no harm, since entering writes the right; but those are not
- *    the agreed bytes.
- *  - gordzila_enter takes the contractor's highest right as a fourth argument. With this header a compiler refuses a call with three.
- *    Objects that were compiled with the header of 0.5, calls without a prototype and bindings of other languages link all the same,
- *    and the right that they enter with is undefined: they have to be changed and built anew. gordzila_enter may now refuse with 7.
- *  - Reason 25 is new: the right asked for is above the contractor's highest. gordzila_issue and gordzila_check give it, after all their
- *    others, and it may be a byte of the answers of gordzila_check_queue. A switch over reasons, or over these bytes, may meet it.
- *  - gordzila_change_right is new. A withdrawal also sets the highest right to 1. No other call changed its form, and no constant but
- *    GORDZILA_ROLL_BYTES its number.
+ *  1. Hosts that share a roll change over together. A roll of 0.5 has 400 bytes, the counts. It now has GORDZILA_ROLL_BYTES bytes, and
+ *     one of 400 is refused with 3; a host of 0.5 refuses the longer roll with 3 too. So change and build the code of all of them
+ *     first, and convert the stored roll when they all take up the new code. Whoever goes back to 0.5 cuts the roll to its first 400
+ *     bytes, and then everyone who was demoted overwrites again.
+ *  2. The code:
+ *     - gordzila_enter takes the contractor's highest right as a fourth argument, and may now refuse with 7. With this header a
+ *       compiler refuses a call with three. Objects that were compiled with the header of 0.5, calls without a prototype and bindings
+ *       of other languages link all the same, and the right that they enter with is undefined: they have to be changed and built anew.
+ *     - The empty roll is no longer all zeros: gordzila_empty_roll is new, and writes it. Zeros throughout are also a roll on which
+ *       nobody was ever entered, whose rights of 0 mean reading only. That does no harm, since entering writes the right; but compared
+ *       byte by byte, such a roll is not equal to other hosts' empty rolls.
+ *     - Reason 25 is new: the right asked for is above the contractor's highest. gordzila_issue and gordzila_check give it, after all
+ *       their others, and it may be a byte of the answers of gordzila_check_queue. A switch over reasons, or over these bytes, may meet
+ *       it.
+ *     - gordzila_change_right is new: it demotes and raises. A withdrawal also sets the highest right to 1. gordzila_highest_right,
+ *       which reads it, and GORDZILA_ROLL_COUNTS_BYTES, the length of the counts, are new too. No other call changed its form, and no
+ *       constant but GORDZILA_ROLL_BYTES its number.
+ *  3. The stored rolls:
+ *     - Append 200 bytes to each that is stored, one for each contractor, contractor 1's first: 2 for those who may overwrite, 1 for
+ *       all others, everyone who is not in standing among them ("The roll", below, says who is). No call does it all, but
+ *       gordzila_change_right helps: append 200 bytes of 1, and call it with 2 for each who may overwrite. Where it answers 20, they
+ *       are not in standing, and 1 stays.
+ *     - With 2 for everyone in standing, each grant opens for what it opened for. With 1 for everyone, every grant for overwriting
+ *       opens for reading only, until its contractor is raised with gordzila_change_right.
+ *     - A box that does this when it starts goes by the length of what is stored. GORDZILA_ROLL_COUNTS_BYTES: convert it, and store the
+ *       longer roll before it is used. GORDZILA_ROLL_BYTES: use it as it is. Any other: stop, and put no empty roll in its place.
+ *     - Look at the length of what is stored, and not of the buffer that it is read into: any GORDZILA_ROLL_BYTES bytes are a roll, so
+ *       that 3 does not catch 400 bytes in a buffer of that size. With zeros after them everyone may only read; with what happened to
+ *       stand there, a byte of 2 lets someone overwrite.
+ *     - The tool converts a roll's file, with one right for all in standing: `gordzila roll convert --roll FILE --right R`. Then
+ *       `gordzila right --roll FILE --contractor N --right R` changes single ones.
  *
  * Changes in 0.5.0, for hosts that were written for 0.4 (nothing changed for hosts in 0.5.1 and 0.5.2):
  *  - gordzila_seal_page and gordzila_open_page are new: they seal up to 492 bytes of a size block in a page of 512, and open it.
@@ -105,13 +114,15 @@ enum {
 };
 
 /*
- * Rights, as they stand in a grant, as they are asked for, and as a contractor's highest right is given. A reading grant opens its
- * size block for reading and not for overwriting; an overwriting grant opens it for both, unless its contractor may only read.
+ * Rights, as they stand in a grant, as they are asked for, and as a contractor's highest right is given. A reading grant opens its size
+ * block for reading and not for overwriting; an overwriting grant opens it for both, or for reading alone where its contractor may only
+ * read.
  */
 enum { GORDZILA_READING = 1, GORDZILA_OVERWRITING = 2 };
 
 /* Lengths in bytes. */
-enum { GORDZILA_BLOCK_BYTES = 12, GORDZILA_GRANT_BYTES = 12, GORDZILA_ROLL_BYTES = 600 };
+enum { GORDZILA_BLOCK_BYTES = 12, GORDZILA_GRANT_BYTES = 12 };
+enum { GORDZILA_ROLL_BYTES = 600, GORDZILA_ROLL_COUNTS_BYTES = 400 };
 enum { GORDZILA_STAGE_BYTES = 24, GORDZILA_SUBKEY_BYTES = 12, GORDZILA_LONGEST_LIST_BYTES = 288 };
 enum { GORDZILA_HOLDER_BYTES = 26 };
 enum { GORDZILA_PAGE_BYTES = 512, GORDZILA_PAYLOAD_BYTES = 492, GORDZILA_SCRATCH_BYTES = 576 };
@@ -123,13 +134,13 @@ enum { GORDZILA_QUEUE_MOST_GRANTS = 64, GORDZILA_LONGEST_QUEUE_BYTES = 768 };
  * The roll: GORDZILA_ROLL_BYTES bytes that the host keeps, with an entry for each of the contractors 1 to 200, which is a count and a
  * highest right. Any such bytes are a roll.
  *
- * Bytes 0 to 399 are the counts, two bytes each, big end first. A contractor is in standing exactly when their count is odd and below
- * 65,535.
+ * Bytes 0 to 399, GORDZILA_ROLL_COUNTS_BYTES in all, are the counts, two bytes each, big end first. A contractor is in standing exactly
+ * when their count is odd and below 65,535.
  *
- * Bytes 400 to 599 are the highest rights, one byte each, so that contractor n has byte 399 + n. 2 means that the contractor may be
- * issued grants for overwriting and that these overwrite. Every other figure means reading only: 0, 1, 3 and 255 alike. The calls
- * write 1 and 2, and any other figure stays until a call that does not refuse enters or withdraws that contractor, or changes
- * their right.
+ * Bytes 400 to 599 are the highest rights, one byte each, so that contractor n has byte 399 + n; gordzila_highest_right reads it. 2
+ * means that the contractor, while in standing, may be issued grants for overwriting and that these overwrite. Every other figure means
+ * reading only: 0, 1, 3 and 255 alike. The calls write 1 and 2, and any other figure stays until a call that does not refuse enters or
+ * withdraws that contractor, or changes their right.
  */
 
 /*
@@ -185,13 +196,17 @@ static inline int gordzila_queue_opens(uint32_t returned, uint8_t byte) { return
  * The calls on the roll. Each returns 0, or the number of the first reason that holds. Those that change a contractor's entry leave all
  * other entries as they are.
  *
- * The empty roll, on which nobody was ever entered: GORDZILA_ROLL_BYTES to out, all counts 0 and all highest rights 1. Order: 4.
+ * The empty roll, on which nobody was ever entered: GORDZILA_ROLL_BYTES bytes to out, all counts 0 and all highest rights 1. Order: 4.
+ *
+ * Beware: for a new store only. Over a roll in use it starts the counts anew: withdrawals and demotions are forgotten, and once
+ * contractors are entered again, grants that were revoked may open.
  */
 uint32_t gordzila_empty_roll(uint8_t *out, size_t out_length);
 
 /*
  * Enter a contractor who is not in standing: 1 is added to their count, and right, 1 or 2, becomes their highest right. At count 65,534
- * or 65,535 they cannot be entered again. Order: 3, 6, 7, 21, 22.
+ * or 65,535 they cannot be entered again. Entering never changes the right of someone in standing: it is refused with 21, whether 1 or
+ * 2 is given, and gordzila_change_right changes it. Order: 3, 6, 7, 21, 22.
  */
 uint32_t gordzila_enter(uint8_t *roll, size_t roll_length, uint32_t contractor, uint32_t right);
 
@@ -200,9 +215,9 @@ uint32_t gordzila_enter(uint8_t *roll, size_t roll_length, uint32_t contractor, 
  * they have already is taken too. Order: 3, 6, 7, 20.
  *
  * A demoted contractor stays in standing. Their grants go on opening for reading, those for overwriting too. Where overwriting is asked
- * for, these are refused with 25 until the contractor is raised; a withdrawal ends them. The issue of such a grant is refused with 25
- * too, until the contractor is raised, or withdrawn, which makes it 20, and entered again with 2. In both cases another reason is
- * given where one comes before 25.
+ * for, these are refused with 25 until the contractor is raised; a withdrawal ends them. The issue of such a grant to them is refused
+ * with 25 too, until they are raised, or are withdrawn (then it is 20) and entered again with 2. In both cases another reason is given
+ * where one comes before 25.
  *
  * Beware:
  *  - No count changes, so that a demotion ends no grant. Once the contractor is raised, every grant for overwriting that was issued to
@@ -215,6 +230,19 @@ uint32_t gordzila_change_right(uint8_t *roll, size_t roll_length, uint32_t contr
 
 /* Withdraw a contractor who is in standing: 1 is added to their count, and their highest right becomes 1. Order: 3, 6, 20. */
 uint32_t gordzila_withdraw(uint8_t *roll, size_t roll_length, uint32_t contractor);
+
+/*
+ * Of a roll: the highest right of a contractor, whether in standing or not. roll has to point to GORDZILA_ROLL_BYTES bytes, since no
+ * length is asked for; contractor is 1 to 200. Returns GORDZILA_OVERWRITING where their byte is 2, and GORDZILA_READING where it is any
+ * other; 0 outside 1 to 200, where no byte is read. Like the other readers, it is code of this header and no call of the library, and
+ * it is not among what is proved.
+ */
+static inline uint32_t gordzila_highest_right(const uint8_t *roll, uint32_t contractor) {
+    if (contractor < 1 || contractor > 200) {
+        return 0;
+    }
+    return roll[GORDZILA_ROLL_COUNTS_BYTES + contractor - 1] == GORDZILA_OVERWRITING ? GORDZILA_OVERWRITING : GORDZILA_READING;
+}
 
 /*
  * Issues a grant to a contractor in the standing that the roll has for them, for a right up to their highest: 12 bytes to out. A grant

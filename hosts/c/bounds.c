@@ -10,9 +10,9 @@
  * of 3 contractors, 5 grants that are enciphered here, each checked for 5 rights and 2 size blocks on rolls with 3 counts and 5 highest
  * rights, and to each of 6 contractors issues for 5 rights with 2 counts and 5 highest rights: 6 * (3 * 5 * 151 + 300). Of each key there
  * are 10 stages in 5 outputs, for 2 calls: 1,100. The engine has 11 * 5 * 5 lengths. On rolls of 7 lengths, 6 contractors with 7 counts
- * and 5 highest rights are withdrawn, and entered and changed with 5 rights: 1,470 * 11. The empty roll has 7 outputs. On both sides,
- * 2 * (158,158 + 15,390 + 1,100 + 275 + 16,170 + 7) are 382,200 calls. Prints how many did what they have to; the status is 1 where one
- * did not.
+ * and 5 highest rights are withdrawn, and entered and changed with 5 rights: 1,470 * 11. The empty roll has 7 outputs. The header's
+ * reader of highest rights is asked for 6 contractors with 256 figures: 1,536. On both sides, 2 * (158,158 + 15,390 + 1,100 + 275 +
+ * 16,170 + 7 + 1,536) are 385,272 calls. Prints how many did what they have to; the status is 1 where one did not.
  */
 #include "guard.h"
 #include "rules.h"
@@ -289,12 +289,24 @@ static void empty_roll(size_t length) {
           wrong || changed_beside(got, &out, sizeof bytes));
 }
 
+/* The header's reader, of each figure. Outside 1 to 200 it touches nothing. */
+static void read_right(uint32_t contractor) {
+    for (unsigned figure = 0; figure < 256; figure++) {
+        uint32_t expected = figure == 2 ? GORDZILA_OVERWRITING : GORDZILA_READING;
+        lend_entry(contractor, (struct entry){1, (uint8_t)figure}, GORDZILA_ROLL_BYTES);
+        judge("highest_right", gordzila_highest_right(roll.at, contractor), is_contractor(contractor) ? expected : 0, NULL, 0);
+    }
+}
+
 static void on_rolls(void) {
     for (size_t r = 0; r < COUNT(roll_lengths); r++) {
         for (size_t i = 0; i < COUNT(contractors); i++) {
             rolls(roll_lengths[r], contractors[i]);
         }
         empty_roll(roll_lengths[r]);
+    }
+    for (size_t i = 0; i < COUNT(contractors); i++) {
+        read_right(contractors[i]);
     }
 }
 

@@ -228,6 +228,7 @@ int main(void) {
     uint8_t roll[GORDZILA_ROLL_BYTES];
     uint8_t page[GORDZILA_PAGE_BYTES] = {0};
     struct pile pile = {{0}, 0};
+    /* Only because the store is new: over a roll in use the counts would start anew, and grants that were revoked might open. */
     if (gordzila_empty_roll(roll, sizeof roll) != 0) {
         return 1;
     }

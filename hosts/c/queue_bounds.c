@@ -22,15 +22,15 @@ static const size_t queue_lengths[] = {0, 1, 11, 12, 13, 24, 755, 756, 767, 768,
 static const size_t answer_lengths[] = {0, 1, 2, 3, 62, 63, 64, 65, 66, 128, 256};
 
 /*
- * Contractors and their entries on the roll; all others have count 0 and may overwrite. Those with the counts 1, 3, 5 and 65,533 are in
+ * Contractors and their entries on the roll; all others have count 0 and may overwrite. Those with the counts 1, 3, 5, 7 and 65,533 are in
  * standing. Who may overwrite there, and who may only read, stand side by side.
  */
 static const struct {
     unsigned contractor;
     struct entry entry;
 } entries[] = {
-    {1, {65533, 2}}, {2, {1, 0}}, {3, {1, 3}},     {4, {2, 1}},     {6, {0, 1}},
-    {7, {1, 2}},     {8, {2, 1}}, {9, {65535, 2}}, {199, {3, 255}}, {200, {5, 2}},
+    {1, {65533, 2}}, {2, {1, 0}},     {3, {1, 3}},  {4, {2, 1}},     {6, {0, 1}},   {7, {1, 2}},
+    {8, {2, 1}},     {9, {65535, 2}}, {10, {7, 1}}, {199, {3, 255}}, {200, {5, 2}},
 };
 
 /* What a grant says, and the last byte of its mark, which is 0x44. */
@@ -39,14 +39,15 @@ struct plain {
     uint8_t right, mark;
 };
 
-/* The last six are of contractors who may only read. */
-enum { KINDS = 23 };
+/* The last twelve are of contractors who may only read. */
+enum { KINDS = 29 };
 static const struct plain plains[KINDS] = {
     {7, 1, 300, 2, 0x44},   {7, 1, 300, 1, 0x44},     {7, 1, 301, 2, 0x44},     {7, 1, 301, 1, 0x44},   {7, 3, 300, 2, 0x44},
     {7, 3, 300, 1, 0x44},   {8, 2, 300, 2, 0x44},     {8, 1, 300, 1, 0x44},     {200, 5, 300, 2, 0x44}, {200, 5, 301, 1, 0x44},
     {200, 1, 301, 1, 0x44}, {1, 65533, 300, 1, 0x44}, {9, 65535, 300, 2, 0x44}, {0, 0, 300, 2, 0x44},   {201, 1, 300, 1, 0x44},
     {7, 1, 300, 3, 0x44},   {7, 1, 300, 2, 0x45},     {2, 1, 300, 2, 0x44},     {3, 1, 300, 2, 0x44},   {199, 3, 301, 2, 0x44},
-    {2, 1, 300, 1, 0x44},   {3, 3, 300, 2, 0x44},     {4, 1, 300, 2, 0x44},
+    {2, 1, 300, 1, 0x44},   {3, 3, 300, 2, 0x44},     {4, 1, 300, 2, 0x44},     {10, 7, 300, 2, 0x44},  {10, 7, 300, 1, 0x44},
+    {10, 7, 301, 2, 0x44},  {10, 7, 301, 1, 0x44},    {10, 5, 300, 2, 0x44},    {10, 7, 300, 3, 0x44},
 };
 
 static struct lent key, roll, grants, answers;
@@ -57,7 +58,7 @@ static uint8_t pile[2 * MOST][GORDZILA_GRANT_BYTES];
 /* What the single checks say of the pile as bytes of a queue: by size block from 300 on, and by right from 1 on. */
 static uint8_t verdicts[2][2][MOST];
 
-/* All kinds stand in the first 23 grants, and in the next 23, each time in another order. */
+/* All kinds stand in the first 29 grants, and in the next 29, each time in another order. */
 static const struct plain *plain_at(size_t i) { return &plains[(i * i * i + i / KINDS) % KINDS]; }
 
 static struct entry entry_of(unsigned contractor) {

@@ -1,5 +1,5 @@
 -- A term of each type of specs/Claims.antt.
-use mathlib.Core.Path.{_≡_, refl, sym, ap, _∙_}
+use mathlib.Core.Path.{_≡_, refl, sym, ap, _∙_, subst⁻¹}
 use mathlib.Core.Bool.{true}
 use mathlib.Core.List.{List, [], _∷_}
 use Prim.Native.Nat.{ℕ}
@@ -15,22 +15,22 @@ use Rattle.cipher.specs.Cipher.{cipherBlock}
 use Rattle.roll.specs.Roll.{emptyRoll, countOf, figureOf, inStanding, withEntry}
 use Rattle.roll_changes.specs.Changes.{enteredRoll}
 use Rattle.roll_bytes.specs.RollBytes.{countsOf, rollLength, rollOf, countsBytes, rollBytes}
-use Rattle.roll_bytes.specs.Lemmas.{RollTellsBytes}
+use Rattle.roll_bytes.specs.Claims.{BytesTellRoll}
 use Rattle.roll_bytes.proofs.Entries.{length-empty}
-use Rattle.roll_bytes.proofs.Lemmas.{roll-tells-bytes}
-use Rattle.histories.specs.Histories.{Change, enter, rollAfter}
+use Rattle.roll_bytes.proofs.Claims.{bytes-tell-roll}
+use Rattle.histories.specs.Histories.{Change, enter, changed, rollAfter, Withdrawn}
 use Rattle.histories.proofs.Calls.{zeros-small, empty-roll}
 use Rattle.grant.specs.declared.Verdict.the-variants.{Opens, Refused}
 use Rattle.rights.specs.Rights.{isRight}
 use Rattle.rights.proofs.Rights.{within-two}
 use Rattle.issuing.specs.Issuing.{issueTries, issuedGrant}
 use Rattle.checking.specs.Checking.{checkNumber}
-use Rattle.revocation.specs.Claims.{Issued, OpensNothing, IssuedOpens, RevokedNeverOpens, RevokedInTwoRooms}
-use Rattle.revocation.proofs.Claims.{issued-opens, revoked-never-opens, revoked-in-two-rooms}
+use Rattle.revocation.specs.Claims.{Issued, OpensNothing, IssuedOpens, RevokedNeverOpens, RevokedInTwoRooms, roll7, calls7}
+use Rattle.revocation.proofs.Claims.{issued-opens, revoked-never-opens, revoked-in-two-rooms, withdrawn-7}
 use Rattle.check_call.specs.CheckCall.{callCode}
 use Rattle.roll_calls.specs.RollCalls.{enterCallRoll, emptyCallTries, enterCallTries, withdrawCallTries, changeCallTries}
 use Rattle.issue_call.specs.IssueCall.{issueCallTries, issueCallNumber, issueCallOutput}
-use Rattle.call_claims.specs.CallHistories.{called, bytesAfter, here, CallIssued, grantGiven}
+use Rattle.call_claims.specs.CallHistories.{called, bytesAfter, CallIssued, grantGiven}
 use Rattle.call_claims.specs.Claims.{CodesTellVerdicts, ChecksNameContractors, CallInOrder, RollCallsInOrder, CallOpensExactlyWhen}
 use Rattle.call_claims.specs.Claims.{CallNeverZero, CallIsCheck}
 use Rattle.call_claims.specs.Claims.{Holds, BytesFollowRoll, CallChecks, CallIssuedOpens, CallOverwritingOpensReading, CallTenOnlyForOverwriting}
@@ -38,7 +38,7 @@ use Rattle.call_claims.specs.Claims.{bytesWith7, CallAnswersTo7, Refuses
 use Rattle.call_claims.proofs.Codes as codes
 use Rattle.call_claims.proofs.Opens.{checked-contractor, in-order, is-check, call-opening, call-accepted, never-zero, call-refuses}
 use Rattle.call_claims.proofs.Opens.{call-given, call-ten, call-refused, call-looks}
-use Rattle.call_claims.proofs.Stored.{is-roll, rolls-bytes, after-holds, withdrawn-read}
+use Rattle.call_claims.proofs.Stored.{is-roll, rolls-bytes, after-holds, withdrawn-read, withdrawn-called}
 
 -- ---- the check's number
 pub codes-tell-verdicts : CodesTellVerdicts
@@ -141,15 +141,18 @@ call-ten-only-for-overwriting = call-ten
 
 -- the empty roll's bytes, and those after contractor 7 is entered
 empty-holds : Holds (rollBytes emptyRoll) emptyRoll
-unfolding RollTellsBytes
+unfolding BytesTellRoll
 empty-holds = record {
   small = rolls-bytes emptyRoll empty-roll;
   long = length-empty;
-  read = roll-tells-bytes emptyRoll (empty-roll .many) (empty-roll .small);
+  read = bytes-tell-roll emptyRoll (empty-roll .many) (empty-roll .small);
 }
 
-pub holds-7 : Holds bytesWith7 (rollAfter (enter 7 2 ∷ []) (rollOf (rollBytes emptyRoll)))
-holds-7 = after-holds (enter 7 2 ∷ []) (rollBytes emptyRoll) (empty-holds .small) (empty-holds .long)
+pub holds-7 : Holds bytesWith7 roll7
+unfolding rollAfter changed
+holds-7 =
+    let h = after-holds (enter 7 2 ∷ []) (rollBytes emptyRoll) (empty-holds .small) (empty-holds .long) in
+    record { small = h .small; long = h .long; read = h .read ∙ ap (rollAfter (enter 7 2 ∷ [])) (empty-holds .read) }
 
 -- contractor 7 gets a grant with either right
 pub issued-7 : (right : ℕ) → isRight right ≡ true → CallIssued (replicate 12 0) 10 bytesWith7 7 300 right (replicate 12 0)
@@ -186,6 +189,6 @@ calls-revoke-in-two-rooms key rounds roll contractor block right out i xs ys zs 
     (is-roll roll (i .roll-bytes) (long key rounds roll contractor block right out i)) xs ys zs m w)
 
 pub calls-revoke-something : CallsRevokeSomething
-unfolding CallsRevokeSomething bytesAfter called enterCallRoll first written answered rollOf countsOf rollBytes countsBytes emptyRoll countOf inStanding
-    withEntry enteredRoll
-calls-revoke-something = (issued-7 2 refl, here refl)
+unfolding CallsRevokeSomething
+calls-revoke-something =
+    (issued-7 2 refl, withdrawn-called bytesWith7 (holds-7 .small) (holds-7 .long) (subst⁻¹ (Withdrawn 7 calls7) (holds-7 .read) withdrawn-7))

@@ -16,8 +16,8 @@ use Rattle.roll.specs.declared.Roll.{Roll}
 use Rattle.roll.specs.Roll.{countOf}
 use Rattle.roll_changes.specs.Changes.{enterTries, enteredRoll, withdrawTries, withdrawnRoll, changeTries, changedRoll}
 use Rattle.roll_bytes.specs.RollBytes.{rollLength, countsLength, rollOf, countsBytes, rollBytes, rollTries}
-use Rattle.roll_bytes.specs.Lemmas.{RollTellsBytes}
-use Rattle.roll_bytes.proofs.Lemmas.{roll-tells-bytes}
+use Rattle.roll_bytes.specs.Claims.{BytesTellRoll}
+use Rattle.roll_bytes.proofs.Claims.{bytes-tell-roll}
 use Rattle.roll_bytes.proofs.Pairs.{length-counts, counts-small, length-bytes, bytes-small}
 use Rattle.histories.specs.Histories.{Change, enter, change, withdraw, changed, rollAfter, Withdrawn, Raised, IsRoll}
 use Rattle.histories.specs.Histories as H
@@ -50,12 +50,12 @@ rolls-length roll r =
 -- a roll written over another
 over : (roll : Roll) → IsRoll roll → (bytes : List ℕ) → length bytes ≡ rollLength
     → Holds (rollBytes roll ++ drop (length (rollBytes roll)) bytes) roll
-unfolding RollTellsBytes
+unfolding BytesTellRoll
 over roll r bytes e =
     let l = rolls-length roll r in
     let z : rollBytes roll ++ drop (length (rollBytes roll)) bytes ≡ rollBytes roll =
     ap (λ (x : List ℕ). rollBytes roll ++ x) (drop-of-length-le bytes {i = length (rollBytes roll)} (omega (arith, e, l))) ∙ append-nil (rollBytes roll) in
-    subst (λ (x : List ℕ). Holds x roll) (sym z) record { small = rolls-bytes roll r; long = l; read = roll-tells-bytes roll (r .many) (r .small) }
+    subst (λ (x : List ℕ). Holds x roll) (sym z) record { small = rolls-bytes roll r; long = l; read = bytes-tell-roll roll (r .many) (r .small) }
 
 -- on a roll's bytes a C call gives the number of the call on the roll
 pub passes-roll : (bytes : List ℕ) → length bytes ≡ rollLength → (rest : List Try) → first (rollTries (length bytes) ++ rest) ≡ first rest

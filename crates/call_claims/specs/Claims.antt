@@ -12,13 +12,13 @@ use Rattle.refusal.specs.Claims.{Ordered}
 use Rattle.roll.specs.declared.Roll.{Roll}
 use Rattle.roll.specs.Roll.{emptyRoll}
 use Rattle.roll_bytes.specs.RollBytes.{rollLength, rollOf, rollBytes}
-use Rattle.histories.specs.Histories.{Change, enter, withdraw, rollAfter, Withdraws, Merge}
+use Rattle.histories.specs.Histories.{Change, enter, rollAfter, Withdraws, Merge}
 use Rattle.grant.specs.declared.Verdict.{Verdict}
 use Rattle.grant.specs.declared.Verdict.the-variants.{Opens, Refused}
 use Rattle.rights.specs.Rights.{isRight}
 use Rattle.grant.specs.Grants.{contractorIn, verdictNumber, verdictContractor}
 use Rattle.checking.specs.Checking.{openedGrant, checkNumber, checkContractor, checkRight}
-use Rattle.revocation.specs.Claims.{Opening, ReadingGrant}
+use Rattle.revocation.specs.Claims.{Opening, ReadingGrant, calls7}
 use Rattle.roll_calls.specs.RollCalls.{emptyCallTries, enterCallTries, withdrawCallTries, changeCallTries}
 use Rattle.issue_call.specs.IssueCall.{issueCallTries}
 use Rattle.check_call.specs.CheckCall.{verdictCode, callTries, callCode}
@@ -52,7 +52,7 @@ pub record CallOrdered (key : List ℕ) (rounds : ℕ) (roll grant : List ℕ) (
 unfoldable pub CallInOrder : Type 0
 CallInOrder = (key : List ℕ) (rounds : ℕ) (roll grant : List ℕ) (block right : ℕ) → CallOrdered key rounds roll grant block right
 
--- and so do the other calls that take a roll's bytes or write them
+-- and so do the empty roll, enter, withdraw, change of right and issue; the queue's order stands in `queue_claims`
 pub record RollCallsOrdered (key : List ℕ) (rounds : ℕ) (roll : List ℕ) (c block right : ℕ) (out : List ℕ) : Type 0 where
   pub empty : Ordered (emptyCallTries out)
   pub enter : Ordered (enterCallTries roll c right)
@@ -156,7 +156,7 @@ CallsRevokeInTwoRooms = (key : List ℕ) (rounds : ℕ) (roll : List ℕ) (contr
     → (xs ys zs : List Change) → Merge xs ys zs → Withdraws contractor xs ⊎ Withdraws contractor ys
     → Refuses key rounds (bytesAfter zs roll) (grantGiven key rounds roll contractor block right out)
 
--- there are such calls: contractor 7, entered so, gets a grant, and is withdrawn
+-- there are such calls: contractor 7, entered so, gets a grant, is demoted, withdrawn, and entered again for overwriting. Two rooms that make them are
+-- those of the example of `revocation`
 unfoldable pub CallsRevokeSomething : Type 0
-CallsRevokeSomething =
-    CallIssued (replicate 12 0) 10 bytesWith7 7 300 2 (replicate 12 0) × CallWithdrawn 7 (withdraw 7 ∷ []) bytesWith7
+CallsRevokeSomething = CallIssued (replicate 12 0) 10 bytesWith7 7 300 2 (replicate 12 0) × CallWithdrawn 7 calls7 bytesWith7

@@ -19,19 +19,19 @@ use Rattle.rights.proofs.Rights.{right-least, within-reading}
 use Rattle.roll.specs.declared.Roll.{Roll}
 use Rattle.roll.specs.Roll.{isContractor, countOf, figureOf, entryOf, inStanding}
 use Rattle.roll_changes.specs.Changes.{changeTries, changeNumber, changedRoll}
-use Rattle.roll_bytes.specs.RollBytes.{rollLength, rollOf}
+use Rattle.roll_bytes.specs.RollBytes.{rollLength, rollOf, rollTries}
 use Rattle.histories.specs.Histories.{Change, change, changed, rollAfter, Withdrawn, Raised, Spares, IsRoll}
 use Rattle.histories.proofs.Calls.{after-other}
-use Rattle.histories.proofs.Counts.{right-moves-none}
+use Rattle.histories.proofs.Counts.{after-grows, right-moves-none}
 use Rattle.key_lists.specs.declared.Direction.the-variants.{Enciphering}
 use Rattle.cipher.specs.Cipher.{cipherBlock}
 use Rattle.grant.specs.Grants.{plainGrant, contractorIn}
-use Rattle.issuing.specs.Issuing.{issueTries, issuedGrant}
+use Rattle.issuing.specs.Issuing.{wantedTries, issueTries, issueNumber, issuedGrant}
 use Rattle.judging.specs.Judging.{inputTries}
 use Rattle.checking.specs.Checking.{openedGrant, checkNumber}
 use Rattle.revocation.specs.Claims.{SameCheck}
-use Rattle.demotion.specs.Claims.{NoOverwriting, Above}
-use Rattle.demotion.proofs.Demoted.{never-overwrites, above, same-count, same-reading, raised-check, twenty-five, is-above}
+use Rattle.demotion.specs.Claims.{NoOverwriting, Above, IssueAbove}
+use Rattle.demotion.proofs.Demoted.{never-overwrites, above, same-count, same-reading, raises, twenty-five, is-above, issue-twenty-five, issue-is-above}
 use Rattle.check_call.specs.CheckCall.{callTries, callCode}
 use Rattle.issue_call.specs.IssueCall.{issueCallTries, issueCallNumber, issueCallOutput}
 use Rattle.roll_calls.specs.RollCalls.{changeCallTries, changeCallNumber, changeCallRoll}
@@ -41,9 +41,14 @@ use Rattle.call_claims.proofs.Opens.{refused-with, call-number, is-check, call-
 use Rattle.call_claims.proofs.Stored.{is-roll, passes-roll, call-holds, after-holds, withdrawn-called, raised-called}
 use Rattle.queue_claims.proofs.Bytes.{answers}
 use Rattle.queue_claims.proofs.Calls.{same-queue, roll-long}
-use Rattle.call_demotion.specs.Claims.{QueuesNoOverwriting, CallNoOverwriting, CallReadsAs}
+use Rattle.call_demotion.specs.Claims.{QueuesNoOverwriting, CallNoOverwriting, CallReadsAs, CallRaises}
 
 -- ---- counts and others
+pub counts-grow : (roll : List ℕ) → AreBytes roll → length roll ≡ rollLength
+    → (hs : List Change) (c : ℕ) → countOf (rollOf roll) c ≤ countOf (rollOf (bytesAfter hs roll)) c
+counts-grow roll small long hs c =
+    subst⁻¹ (λ (r : Roll). countOf (rollOf roll) c ≤ countOf r c) (after-holds hs roll small long .read) (after-grows hs (rollOf roll) c)
+
 pub same-counts : (roll : List ℕ) → AreBytes roll → length roll ≡ rollLength
     → (c right : ℕ) → rollOf (changeCallRoll roll c right) .counts ≡ rollOf roll .counts
 unfolding called changed
@@ -120,42 +125,50 @@ module _ (roll : List ℕ) (small : AreBytes roll) (c : ℕ) (accepted : changeC
       let h = after-holds hs (changeCallRoll roll c 1) (low .small) (low .long) in
       record { small = h .small; long = h .long; read = h .read ∙ ap (rollAfter hs) (low .read) }
 
+  -- where no call on the bytes raises the contractor, none on the roll does
+  stays-low : (hs : List Change) → (CallRaised c hs (changeCallRoll roll c 1) → ⊥) → Raised c hs (changedRoll (rollOf roll) c 1) → ⊥
+  stays-low hs n w = n (raised-called (changeCallRoll roll c 1) (low .small) (low .long) (subst⁻¹ (λ (r : Roll). Raised c hs r) (low .read) w))
+
   pub call-never-overwrites : (hs : List Change) → (CallRaised c hs (changeCallRoll roll c 1) → ⊥)
       → CallNoOverwriting (bytesAfter hs (changeCallRoll roll c 1)) c
   call-never-overwrites hs n =
       on-bytes (bytesAfter hs (changeCallRoll roll c 1)) c
-      (subst⁻¹ (λ (r : Roll). NoOverwriting r c) (after hs .read)
-      (never-overwrites (rollOf roll) is c on-roll hs
-      (λ w. n (raised-called (changeCallRoll roll c 1) (low .small) (low .long) (subst⁻¹ (λ (r : Roll). Raised c hs r) (low .read) w)))))
+      (subst⁻¹ (λ (r : Roll). NoOverwriting r c) (after hs .read) (never-overwrites (rollOf roll) is c on-roll hs (stays-low hs n)))
 
-  module _ (key : List ℕ) (rounds : ℕ) (grant : List ℕ) (block : ℕ) (named : contractorIn (openedGrant key rounds grant) ≡ c) where
-    -- a check on the roll after some calls is one on the bytes after them
-    as-read : (right : ℕ) (bytes : List ℕ) (roll' : Roll) → Holds bytes roll' → SameCheck key rounds (rollOf roll) roll' grant block right
-        → callCode key rounds bytes grant block right ≡ callCode key rounds roll grant block right
-    as-read right bytes roll' h s =
-        same-code key rounds roll bytes grant block right long (h .long)
-        (subst⁻¹ (λ (r : Roll). SameCheck key rounds (rollOf roll) r grant block right) (h .read) s)
-
-    pub call-above : 1000 ≤ callCode key rounds roll grant block 2 → callCode key rounds (changeCallRoll roll c 1) grant block 2 ≡ 25
-    call-above h =
-        let z = call-passed key rounds roll grant block 2 h .1 in
-        let e = above (rollOf roll) is c on-roll key rounds grant block named z in
-        call-refused key rounds (changeCallRoll roll c 1) grant block 2 (low .long) 25 (lit< tt)
-        (ap (λ (r : Roll). checkNumber key rounds r grant block 2) (low .read) ∙ e)
+  -- a check on the roll after some calls is one on the bytes after them
+  as-read : (key : List ℕ) (rounds : ℕ) (grant : List ℕ) (block right : ℕ) (bytes : List ℕ) (other : Roll) → Holds bytes other
+      → SameCheck key rounds (rollOf roll) other grant block right
+      → callCode key rounds bytes grant block right ≡ callCode key rounds roll grant block right
+  as-read key rounds grant block right bytes other h s =
+      same-code key rounds roll bytes grant block right long (h .long)
+      (subst⁻¹ (λ (r : Roll). SameCheck key rounds (rollOf roll) r grant block right) (h .read) s)
 
   -- calls in which the contractor is not withdrawn
   module _ (hs : List Change) (n : CallWithdrawn c hs (changeCallRoll roll c 1) → ⊥) where
     stays-in : Withdrawn c hs (changedRoll (rollOf roll) c 1) → ⊥
     stays-in w = n (withdrawn-called (changeCallRoll roll c 1) (low .small) (low .long) (subst⁻¹ (λ (r : Roll). Withdrawn c hs r) (low .read) w))
 
-    pub call-reads : CallReadsAs roll (bytesAfter hs (changeCallRoll roll c 1)) c
+    abbrev bytes : List ℕ
+    bytes = bytesAfter hs (changeCallRoll roll c 1)
+
+    abbrev other : Roll
+    other = rollAfter hs (changedRoll (rollOf roll) c 1)
+
+    pub call-above : (CallRaised c hs (changeCallRoll roll c 1) → ⊥) → (key : List ℕ) (rounds : ℕ) (grant : List ℕ) (block : ℕ)
+        → contractorIn (openedGrant key rounds grant) ≡ c
+        → 1000 ≤ callCode key rounds roll grant block 2 → callCode key rounds bytes grant block 2 ≡ 25
+    call-above m key rounds grant block named h =
+        let z = call-passed key rounds roll grant block 2 h .1 in
+        let e = above (rollOf roll) is c on-roll hs stays-in (stays-low hs m) key rounds grant block named z in
+        call-refused key rounds bytes grant block 2 (after hs .long) 25 (lit< tt)
+        (ap (λ (r : Roll). checkNumber key rounds r grant block 2) (after hs .read) ∙ e)
+
+    pub call-reads : CallReadsAs roll bytes c
     call-reads =
-        let bytes = bytesAfter hs (changeCallRoll roll c 1) in
-        let other = rollAfter hs (changedRoll (rollOf roll) c 1) in
         let count = same-count (rollOf roll) is c on-roll hs stays-in in
         record {
           checks = λ key rounds grant block named.
-              as-read key rounds grant block named 1 bytes other (after hs)
+              as-read key rounds grant block 1 bytes other (after hs)
               (same-reading key rounds (rollOf roll) other grant block (subst (λ (d : ℕ). countOf other d ≡ countOf (rollOf roll) d) (sym named) count));
           issues = λ key rounds block out.
               let e = ap (λ (r : Roll). countOf r c) (after hs .read) ∙ count in
@@ -164,19 +177,22 @@ module _ (roll : List ℕ) (small : AreBytes roll) (c : ℕ) (accepted : changeC
         }
 
     -- and once raised
-    pub call-raised : figureOf (rollOf roll) c ≡ 2 → changeCallNumber (bytesAfter hs (changeCallRoll roll c 1)) c 2 ≡ 0
-        → (key : List ℕ) (rounds : ℕ) (grant : List ℕ) (block right : ℕ) → contractorIn (openedGrant key rounds grant) ≡ c
-        → callCode key rounds (changeCallRoll (bytesAfter hs (changeCallRoll roll c 1)) c 2) grant block right ≡ callCode key rounds roll grant block right
+    raised-holds : Holds (changeCallRoll bytes c 2) (changedRoll other c 2)
     unfolding called changed
-    call-raised two again key rounds grant block right named =
-        let bytes = bytesAfter hs (changeCallRoll roll c 1) in
-        let other = rollAfter hs (changedRoll (rollOf roll) c 1) in
+    raised-holds =
         let h = call-holds (change c 2) bytes (after hs .small) (after hs .long) in
-        let on = sym (passes-roll bytes (after hs .long) (changeTries c 2 (countOf (rollOf bytes) c))) ∙ again in
-        as-read key rounds grant block named right (changeCallRoll bytes c 2) (changedRoll other c 2)
         record { small = h .small; long = h .long; read = h .read ∙ ap (λ (r : Roll). changedRoll r c 2) (after hs .read) }
-        (raised-check (rollOf roll) is c on-roll key rounds grant block named two hs stays-in
-        (ap (λ (r : Roll). changeNumber r c 2) (sym (after hs .read)) ∙ on) right)
+
+    pub call-raises : figureOf (rollOf roll) c ≡ 2 → CallRaises roll bytes c
+    call-raises two =
+        let r = raises (rollOf roll) is c on-roll hs stays-in two in
+        record {
+          number = passes-roll bytes (after hs .long) (changeTries c 2 (countOf (rollOf bytes) c))
+              ∙ ap (λ (r : Roll). changeNumber r c 2) (after hs .read) ∙ r .number;
+          checks = λ key rounds grant block right named.
+              as-read key rounds grant block right (changeCallRoll bytes c 2) (changedRoll other c 2) raised-holds
+              (r .checks key rounds grant block right named);
+        }
 
 -- ---- when 25 is answered
 module _ (key : List ℕ) (rounds : ℕ) (roll grant : List ℕ) (block right : ℕ) where
@@ -194,3 +210,22 @@ module _ (key : List ℕ) (rounds : ℕ) (roll grant : List ℕ) (block right : 
 
   pub call-is-above : length roll ≡ rollLength → Above key rounds (rollOf roll) grant block right → callCode key rounds roll grant block right ≡ 25
   call-is-above l a = call-refused key rounds roll grant block right l 25 (lit< tt) (is-above key rounds (rollOf roll) grant block right a)
+
+module _ (key : List ℕ) (rounds : ℕ) (roll : List ℕ) (c block right : ℕ) (out : List ℕ) where
+  -- on a roll's bytes an issue has the number of one on the roll that is read
+  pub issue-read : length roll ≡ rollLength → issueCallNumber key rounds roll c block right out ≡ issueNumber key rounds (rollOf roll) c block right out
+  unfolding first
+  issue-read l =
+      ap (λ (b : Bool). first ((settingsTries (length key) rounds ++ ((3 unless b) ∷ [])) ++ wantedTries (length out) c right (entryOf (rollOf roll) c)))
+      (eq-eqb (length roll) rollLength l)
+
+  pub call-issue-twenty-five : issueCallNumber key rounds roll c block right out ≡ 25
+      → (length roll ≡ rollLength) × IssueAbove key rounds (rollOf roll) c block right out
+  call-issue-twenty-five e =
+      let past = passed-before 25 (settingsTries (length key) rounds ++ rollTries (length roll)) _ refl e in
+      let l = eqb-true (length roll) rollLength (past .1 .1 .0) in
+      (l, issue-twenty-five key rounds (rollOf roll) c block right out (sym (issue-read l) ∙ e))
+
+  pub call-issue-is-above : length roll ≡ rollLength → IssueAbove key rounds (rollOf roll) c block right out
+      → issueCallNumber key rounds roll c block right out ≡ 25
+  call-issue-is-above l a = issue-read l ∙ issue-is-above key rounds (rollOf roll) c block right out a

@@ -11,16 +11,21 @@ use borrow.Author.Tests.{eq-eqb}
 use Rattle.refusal.specs.Tries.{first, written, answered}
 use Rattle.refusal.proofs.Tries.{none-given}
 use Rattle.rights.specs.Rights.{isRight}
+use Rattle.roll.specs.declared.Roll.{Roll}
 use Rattle.roll.specs.Roll.{emptyRoll, countOf, figureOf, inStanding, withEntry}
-use Rattle.roll_changes.specs.Changes.{enterTries, enteredRoll, changeTries, changedRoll}
+use Rattle.roll_changes.specs.Changes.{enterTries, enteredRoll, changedRoll}
 use Rattle.roll_bytes.specs.RollBytes.{rollLength, countsOf, rollOf, countsBytes, rollBytes}
 use Rattle.histories.specs.Histories.{enter, change, withdraw, changed}
 use Rattle.grant.specs.Grants.{contractorIn}
+use Rattle.issuing.specs.Issuing.{issueNumber}
+use Rattle.issue_call.specs.IssueCall.{issueCallNumber}
 use Rattle.checking.specs.Checking.{openedGrant}
 use Rattle.revocation.specs.Claims.{IssuedOpens}
 use Rattle.revocation.proofs.Claims.{issued-opens}
 use Rattle.revocation.proofs.Issued.{issued-twelve}
+use Rattle.demotion.specs.Claims.{DemotionHappens}
 use Rattle.demotion.proofs.Demoted.{never-overwrites, named-by}
+use Rattle.demotion.proofs.Claims.{demotion-happens}
 use Rattle.roll_calls.specs.RollCalls.{enterCallNumber, enterCallRoll, changeCallNumber, changeCallRoll}
 use Rattle.call_claims.specs.CallHistories.{called, bytesAfter, CallWithdrawn, later, CallRaised, by-entering, raised-later}
 use Rattle.check_call.specs.CheckCall.{callCode}
@@ -31,10 +36,15 @@ use Rattle.call_claims.proofs.Stored.{passes-roll, call-holds}
 use Rattle.queue_claims.specs.Claims.{asByte}
 use Rattle.queue_claims.proofs.Calls.{call-answers}
 use Rattle.call_claims.proofs.Claims.{holds-7, issued-7, issued, given, checks}
-use Rattle.call_demotion.specs.Claims.{CallsMoveNoCount, CallsLeaveOthers, QueueDemoted, CallsDemote, CallDemotedIsAbove, CallsStillRead}
-use Rattle.call_demotion.specs.Claims.{CallRaisedAsBefore, CallTwentyFiveExactlyAbove, grantTo7, CallsDemoteSomething}
-use Rattle.call_demotion.proofs.Calls.{same-counts, others-stay, queues, call-never-overwrites, call-above, call-reads, call-raised}
-use Rattle.call_demotion.proofs.Calls.{call-twenty-five, call-is-above}
+use Rattle.call_demotion.specs.Claims.{CallCountsNeverFall, CallsMoveNoCount, CallsLeaveOthers, QueueDemoted, CallsDemote, CallDemotedIsAbove}
+use Rattle.call_demotion.specs.Claims.{CallsStillRead, CallRaisedAsBefore, CallTwentyFiveExactlyAbove, CallIssueTwentyFiveExactlyAbove}
+use Rattle.call_demotion.specs.Claims.{grantTo7, CallsDemoteSomething}
+use Rattle.call_demotion.proofs.Calls.{counts-grow, same-counts, others-stay, queues, call-never-overwrites, call-above, call-reads, call-raises}
+use Rattle.call_demotion.proofs.Calls.{call-twenty-five, call-is-above, issue-read, call-issue-twenty-five, call-issue-is-above}
+
+pub call-counts-never-fall : CallCountsNeverFall
+unfolding CallCountsNeverFall
+call-counts-never-fall = counts-grow
 
 pub calls-move-no-count : CallsMoveNoCount
 unfolding CallsMoveNoCount
@@ -54,7 +64,7 @@ calls-demote = call-never-overwrites
 
 pub call-demoted-is-above : CallDemotedIsAbove
 unfolding CallDemotedIsAbove
-call-demoted-is-above roll small c e key rounds grant block named h = call-above roll small c e key rounds grant block named h
+call-demoted-is-above roll small c e hs m n = call-above roll small c e hs n m
 
 pub calls-still-read : CallsStillRead
 unfolding CallsStillRead
@@ -62,13 +72,17 @@ calls-still-read roll small c e hs n = call-reads roll small c e hs n
 
 pub call-raised-as-before : CallRaisedAsBefore
 unfolding CallRaisedAsBefore
-call-raised-as-before roll small c two e hs n again key rounds grant block right named =
-    call-raised roll small c e hs n two again key rounds grant block right named
+call-raised-as-before roll small c two e hs n = call-raises roll small c e hs n two
 
 pub call-twenty-five-exactly-above : CallTwentyFiveExactlyAbove
 unfolding CallTwentyFiveExactlyAbove
 call-twenty-five-exactly-above key rounds roll grant block right =
     (call-twenty-five key rounds roll grant block right, call-is-above key rounds roll grant block right)
+
+pub call-issue-twenty-five-exactly-above : CallIssueTwentyFiveExactlyAbove
+unfolding CallIssueTwentyFiveExactlyAbove
+call-issue-twenty-five-exactly-above key rounds roll c block right out =
+    (call-issue-twenty-five key rounds roll c block right out, call-issue-is-above key rounds roll c block right out)
 
 -- ---- the example
 -- what contractor 7 has on the bytes, computed
@@ -97,7 +111,7 @@ raised-by-none = elim [ ]
 raised-by-withdrawing : {roll : List ℕ} → CallRaised 7 (withdraw 7 ∷ []) roll → ⊥
 raised-by-withdrawing (raised-later w) = raised-by-none w
 
--- 7 is in standing on the demoted bytes: so raising is accepted, and entering is not
+-- 7 is in standing on the demoted bytes: so entering is refused
 low-7 : Holds (changeCallRoll bytesWith7 7 1) (changedRoll (rollOf bytesWith7) 7 1)
 unfolding called changed
 low-7 = call-holds (change 7 1) bytesWith7 (holds-7 .small) (holds-7 .long)
@@ -105,12 +119,6 @@ low-7 = call-holds (change 7 1) bytesWith7 (holds-7 .small) (holds-7 .long)
 low-count-7 : countOf (rollOf (changeCallRoll bytesWith7 7 1)) 7 ≡ 1
 unfolding countOf bytesAfter called enterCallRoll first written answered rollOf countsOf rollBytes countsBytes emptyRoll inStanding withEntry enteredRoll
 low-count-7 = ap (λ (ns : List ℕ). getD ns 6 0) (same-counts bytesWith7 (holds-7 .small) (holds-7 .long) 7 1)
-
-raises-7 : changeCallNumber (changeCallRoll bytesWith7 7 1) 7 2 ≡ 0
-unfolding first inStanding
-raises-7 =
-    passes-roll (changeCallRoll bytesWith7 7 1) (low-7 .long) (changeTries 7 2 (countOf (rollOf (changeCallRoll bytesWith7 7 1)) 7))
-    ∙ ap (λ (n : ℕ). first (changeTries 7 2 n)) low-count-7
 
 refused-7 : enterCallNumber (changeCallRoll bytesWith7 7 1) 7 2 ≡ 21
 unfolding first inStanding
@@ -127,6 +135,15 @@ withdrawn-by-none = elim [ ]
 
 not-withdrawn-7 : CallWithdrawn 7 (change 7 2 ∷ enter 8 1 ∷ []) (changeCallRoll bytesWith7 7 1) → ⊥
 not-withdrawn-7 (later (later w)) = withdrawn-by-none w
+
+-- an issue for overwriting on the demoted bytes is one on the demoted roll
+not-issued-7 : issueCallNumber (replicate 12 0) 10 (changeCallRoll bytesWith7 7 1) 7 300 2 (replicate 12 0) ≡ 25
+unfolding DemotionHappens
+not-issued-7 =
+    let key : List ℕ = replicate 12 0 in
+    issue-read key 10 (changeCallRoll bytesWith7 7 1) 7 300 2 key (low-7 .long)
+    ∙ ap (λ (r : Roll). issueNumber key 10 r 7 300 2 key) (low-7 .read ∙ ap (λ (r : Roll). changedRoll r 7 1) (holds-7 .read))
+    ∙ demotion-happens .not-issued
 
 -- the byte of the grant, alone in a queue on a roll's bytes, is the check's answer
 twelve-7 : length grantTo7 ≡ 12
@@ -153,15 +170,17 @@ calls-demote-something =
     let key : List ℕ = replicate 12 0 in
     let c = checks key 10 bytesWith7 7 300 2 key (issued-7 2 refl) in
     let b = holds-7 .small in
-    let above = call-above bytesWith7 b 7 demoted-7 key 10 grantTo7 300 named-7 (omega (arith, c .opens)) in
+    let above = call-above bytesWith7 b 7 demoted-7 [] withdrawn-by-none raised-by-none key 10 grantTo7 300 named-7 (omega (arith, c .opens)) in
+    let again = call-raises bytesWith7 b 7 demoted-7 [] withdrawn-by-none overwriting-7 in
     let reads = call-reads bytesWith7 b 7 demoted-7 [] withdrawn-by-none .checks key 10 grantTo7 300 named-7 ∙ c .looks refl in
     record {
       opens = (c .opens, alone bytesWith7 (holds-7 .long) 2 2007 refl (c .opens));
       demoted = demoted-7;
       above = (above, alone (changeCallRoll bytesWith7 7 1) (low-7 .long) 2 25 refl above);
+      not-issued = not-issued-7;
       reads = (reads, alone (changeCallRoll bytesWith7 7 1) (low-7 .long) 1 1007 refl reads);
-      raises = raises-7;
-      raised = call-raised bytesWith7 b 7 demoted-7 [] withdrawn-by-none overwriting-7 raises-7 key 10 grantTo7 300 2 named-7 ∙ c .opens;
+      raises = again .number;
+      raised = again .checks key 10 grantTo7 300 2 named-7 ∙ c .opens;
       not-raised = not-raised-7;
       not-withdrawn = not-withdrawn-7;
     }

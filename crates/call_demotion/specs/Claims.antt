@@ -6,13 +6,13 @@ use Prim.Native.Nat.{ℕ, _≤_, _<_}
 use lib.ListN.{length, getD, replicate}
 use Rattle.basics.specs.Bytes.{AreBytes}
 use Rattle.roll.specs.declared.Roll.{Roll}
-use Rattle.roll.specs.Roll.{figureOf, entryOf}
+use Rattle.roll.specs.Roll.{countOf, figureOf, entryOf}
 use Rattle.roll_changes.specs.Changes.{changeNumber, changedRoll}
 use Rattle.roll_bytes.specs.RollBytes.{rollLength, rollOf}
 use Rattle.histories.specs.Histories.{Change, enter, change, withdraw, rollAfter, Raised, Spares, IsRoll}
 use Rattle.grant.specs.Grants.{contractorIn}
 use Rattle.checking.specs.Checking.{openedGrant}
-use Rattle.demotion.specs.Claims.{Above}
+use Rattle.demotion.specs.Claims.{Above, IssueAbove}
 use Rattle.check_call.specs.CheckCall.{callCode}
 use Rattle.issue_call.specs.IssueCall.{issueCallNumber, issueCallOutput}
 use Rattle.roll_calls.specs.RollCalls.{changeCallNumber, changeCallRoll}
@@ -23,7 +23,12 @@ use Rattle.call_claims.specs.CallHistories.{bytesAfter, CallWithdrawn, CallRais
 use Rattle.call_claims.specs.Claims.{bytesWith7}
 
 -- ---- counts and others
--- on a roll's bytes gordzila_change_right moves no count, nobody's
+-- on a roll's bytes counts never fall, whatever is called
+unfoldable pub CallCountsNeverFall : Type 0
+CallCountsNeverFall = (roll : List ℕ) → AreBytes roll → length roll ≡ rollLength
+    → (hs : List Change) (c : ℕ) → countOf (rollOf roll) c ≤ countOf (rollOf (bytesAfter hs roll)) c
+
+-- gordzila_change_right moves no count, nobody's
 unfoldable pub CallsMoveNoCount : Type 0
 CallsMoveNoCount = (roll : List ℕ) → AreBytes roll → length roll ≡ rollLength
     → (c right : ℕ) → rollOf (changeCallRoll roll c right) .counts ≡ rollOf roll .counts
@@ -62,11 +67,12 @@ unfoldable pub CallsDemote : Type 0
 CallsDemote = (roll : List ℕ) → AreBytes roll → (c : ℕ) → changeCallNumber roll c 1 ≡ 0
     → (hs : List Change) → (CallRaised c hs (changeCallRoll roll c 1) → ⊥) → CallNoOverwriting (bytesAfter hs (changeCallRoll roll c 1)) c
 
--- what gordzila_check opened for overwriting before, it refuses with 25 after
+-- what gordzila_check opened for overwriting before, it refuses with 25 after, until the contractor is raised or withdrawn
 unfoldable pub CallDemotedIsAbove : Type 0
 CallDemotedIsAbove = (roll : List ℕ) → AreBytes roll → (c : ℕ) → changeCallNumber roll c 1 ≡ 0
+    → (hs : List Change) → (CallRaised c hs (changeCallRoll roll c 1) → ⊥) → (CallWithdrawn c hs (changeCallRoll roll c 1) → ⊥)
     → (key : List ℕ) (rounds : ℕ) (grant : List ℕ) (block : ℕ) → contractorIn (openedGrant key rounds grant) ≡ c
-    → 1000 ≤ callCode key rounds roll grant block 2 → callCode key rounds (changeCallRoll roll c 1) grant block 2 ≡ 25
+    → 1000 ≤ callCode key rounds roll grant block 2 → callCode key rounds (bytesAfter hs (changeCallRoll roll c 1)) grant block 2 ≡ 25
 
 -- ---- reading goes on
 -- asked for reading, gordzila_check answers what it answered on the bytes before, and gordzila_issue answers and writes what it did
@@ -83,20 +89,28 @@ CallsStillRead = (roll : List ℕ) → AreBytes roll → (c : ℕ) → changeCal
     → (hs : List Change) → (CallWithdrawn c hs (changeCallRoll roll c 1) → ⊥) → CallReadsAs roll (bytesAfter hs (changeCallRoll roll c 1)) c
 
 -- ---- raised again
--- whatever is called meanwhile, unless a gordzila_withdraw of the contractor answers 0: once raised, gordzila_check answers whatever is asked of their
--- grants as before the demotion
+-- raising a contractor on a roll's bytes answers 0, and gordzila_check then answers whatever is asked of their grants as it does on others
+pub record CallRaises (roll other : List ℕ) (c : ℕ) : Type 0 where
+  pub number : changeCallNumber other c 2 ≡ 0
+  pub checks : (key : List ℕ) (rounds : ℕ) (grant : List ℕ) (block right : ℕ) → contractorIn (openedGrant key rounds grant) ≡ c
+      → callCode key rounds (changeCallRoll other c 2) grant block right ≡ callCode key rounds roll grant block right
+
+-- so it is with the bytes before a demotion, whatever is called after it, unless a gordzila_withdraw of the contractor answers 0
 unfoldable pub CallRaisedAsBefore : Type 0
 CallRaisedAsBefore = (roll : List ℕ) → AreBytes roll → (c : ℕ) → figureOf (rollOf roll) c ≡ 2 → changeCallNumber roll c 1 ≡ 0
-    → (hs : List Change) → (CallWithdrawn c hs (changeCallRoll roll c 1) → ⊥) → changeCallNumber (bytesAfter hs (changeCallRoll roll c 1)) c 2 ≡ 0
-    → (key : List ℕ) (rounds : ℕ) (grant : List ℕ) (block right : ℕ) → contractorIn (openedGrant key rounds grant) ≡ c
-    → callCode key rounds (changeCallRoll (bytesAfter hs (changeCallRoll roll c 1)) c 2) grant block right ≡ callCode key rounds roll grant block right
+    → (hs : List Change) → (CallWithdrawn c hs (changeCallRoll roll c 1) → ⊥) → CallRaises roll (bytesAfter hs (changeCallRoll roll c 1)) c
 
 -- ---- when 25 is answered
--- exactly where the bytes are a roll's and the check on the roll read from them gives 25
+-- exactly where the bytes are a roll's and the check, or the issue, on the roll read from them gives 25
 unfoldable pub CallTwentyFiveExactlyAbove : Type 0
 CallTwentyFiveExactlyAbove = (key : List ℕ) (rounds : ℕ) (roll grant : List ℕ) (block right : ℕ)
     → (callCode key rounds roll grant block right ≡ 25 → (length roll ≡ rollLength) × Above key rounds (rollOf roll) grant block right)
     × (length roll ≡ rollLength → Above key rounds (rollOf roll) grant block right → callCode key rounds roll grant block right ≡ 25)
+
+unfoldable pub CallIssueTwentyFiveExactlyAbove : Type 0
+CallIssueTwentyFiveExactlyAbove = (key : List ℕ) (rounds : ℕ) (roll : List ℕ) (c block right : ℕ) (out : List ℕ)
+    → (issueCallNumber key rounds roll c block right out ≡ 25 → (length roll ≡ rollLength) × IssueAbove key rounds (rollOf roll) c block right out)
+    × (length roll ≡ rollLength → IssueAbove key rounds (rollOf roll) c block right out → issueCallNumber key rounds roll c block right out ≡ 25)
 
 -- ---- all of this happens
 -- what is asked of a grant to contractor 7, who was entered for overwriting on the bytes of the empty roll, to overwrite size block 300, on the bytes
@@ -115,6 +129,7 @@ pub record CallExample : Type 0 where
   pub opens : (answerAfter [] 2 ≡ 2007) × (byteAfter [] 2 ≡ 0)
   pub demoted : changeCallNumber bytesWith7 7 1 ≡ 0
   pub above : (answerAfter (change 7 1 ∷ []) 2 ≡ 25) × (byteAfter (change 7 1 ∷ []) 2 ≡ 25)
+  pub not-issued : issueCallNumber (replicate 12 0) 10 (changeCallRoll bytesWith7 7 1) 7 300 2 (replicate 12 0) ≡ 25
   pub reads : (answerAfter (change 7 1 ∷ []) 1 ≡ 1007) × (byteAfter (change 7 1 ∷ []) 1 ≡ 0)
   pub raises : changeCallNumber (changeCallRoll bytesWith7 7 1) 7 2 ≡ 0
   pub raised : answerAfter (change 7 1 ∷ change 7 2 ∷ []) 2 ≡ 2007

@@ -8,13 +8,15 @@ use Rattle.refusal.specs.Tries.{first, answered}
 use Rattle.roll.specs.declared.Roll.{Roll}
 use Rattle.roll.specs.Roll.{emptyRoll, countOf, figureOf, inStanding, withEntry}
 use Rattle.roll_changes.specs.Changes.{enteredRoll, changeNumber, changedRoll}
+use Rattle.rights.specs.Rights.{highest, withinHighest}
+use Rattle.issuing.specs.Issuing.{issueNumber}
 use Rattle.histories.specs.Histories.{enter, change, withdraw, rollAfter, Withdrawn, later, Raised, by-entering, raised-later}
 use Rattle.revocation.specs.Claims.{IssuedOpens, OverwritingOpensReading, roll7}
 use Rattle.revocation.proofs.Claims.{issued-opens, overwriting-opens-reading, issued-7, entered-7}
 use Rattle.demotion.specs.Claims.{DemotedNeverOverwrites, OnlyTwoOverwrites, DemotedIsAbove, DemotedStillReads, RaisedAsBefore}
-use Rattle.demotion.specs.Claims.{TwentyFiveExactlyAbove, grant7, DemotionHappens}
+use Rattle.demotion.specs.Claims.{TwentyFiveExactlyAbove, IssueTwentyFiveExactlyAbove, grant7, DemotionHappens}
 use Rattle.demotion.proofs.Demoted.{no-overwriting, never-overwrites, above, same-count, same-reading}
-use Rattle.demotion.proofs.Demoted.{same-issue, same-grant, raised-check, twenty-five, is-above, named-by, accepted-as}
+use Rattle.demotion.proofs.Demoted.{same-issue, same-grant, raises, twenty-five, is-above, issue-twenty-five, issue-is-above, named-by, accepted-as}
 
 pub demoted-never-overwrites : DemotedNeverOverwrites
 unfolding DemotedNeverOverwrites
@@ -26,7 +28,7 @@ only-two-overwrites = no-overwriting
 
 pub demoted-is-above : DemotedIsAbove
 unfolding DemotedIsAbove
-demoted-is-above roll is c e key rounds grant block named z = above roll is c e key rounds grant block named z
+demoted-is-above roll is c e hs m n = above roll is c e hs n m
 
 pub demoted-still-reads : DemotedStillReads
 unfolding DemotedStillReads
@@ -41,18 +43,26 @@ demoted-still-reads roll is c e hs n =
 
 pub raised-as-before : RaisedAsBefore
 unfolding RaisedAsBefore
-raised-as-before roll is c two e hs n again key rounds grant block right named =
-    raised-check roll is c e key rounds grant block named two hs n again right
+raised-as-before roll is c two e hs n = raises roll is c e hs n two
 
 pub twenty-five-exactly-above : TwentyFiveExactlyAbove
 unfolding TwentyFiveExactlyAbove
 twenty-five-exactly-above key rounds roll grant block right =
     (twenty-five key rounds roll grant block right, is-above key rounds roll grant block right)
 
+pub issue-twenty-five-exactly-above : IssueTwentyFiveExactlyAbove
+unfolding IssueTwentyFiveExactlyAbove
+issue-twenty-five-exactly-above key rounds roll c block right out =
+    (issue-twenty-five key rounds roll c block right out, issue-is-above key rounds roll c block right out)
+
 -- ---- the example
 demoted-7 : changeNumber roll7 7 1 ≡ 0
 unfolding first answered emptyRoll countOf inStanding withEntry enteredRoll
 demoted-7 = refl
+
+not-issued-7 : issueNumber (replicate 12 0) 10 (changedRoll roll7 7 1) 7 300 2 (replicate 12 0) ≡ 25
+unfolding first answered emptyRoll countOf figureOf inStanding withEntry enteredRoll changedRoll withinHighest highest
+not-issued-7 = refl
 
 -- no withdrawal, and an enter for reading alone, raise anybody; the enter before them is refused with 21
 raised-by-none : {roll : Roll} → Raised 7 [] roll → ⊥
@@ -75,10 +85,6 @@ withdrawn-by-none = elim [ ]
 not-withdrawn-7 : Withdrawn 7 (change 7 1 ∷ change 7 2 ∷ enter 8 1 ∷ []) (changedRoll roll7 7 1) → ⊥
 not-withdrawn-7 (later (later (later w))) = withdrawn-by-none w
 
-raises-7 : changeNumber (changedRoll roll7 7 1) 7 2 ≡ 0
-unfolding first answered emptyRoll countOf inStanding withEntry enteredRoll changedRoll
-raises-7 = refl
-
 overwriting-7 : figureOf roll7 7 ≡ 2
 unfolding first answered emptyRoll countOf figureOf inStanding withEntry enteredRoll
 overwriting-7 = refl
@@ -89,14 +95,16 @@ demotion-happens =
     let key : List ℕ = replicate 12 0 in
     let opens = issued-opens key 10 roll7 7 300 2 key (issued-7 2 refl) .opens in
     let named = named-by key 10 roll7 grant7 300 2 7 opens in
+    let again = raises roll7 entered-7 7 demoted-7 [] withdrawn-by-none overwriting-7 in
     record {
       opens = opens;
       demoted = demoted-7;
-      above = above roll7 entered-7 7 demoted-7 key 10 grant7 300 named (opens .number);
+      above = above roll7 entered-7 7 demoted-7 [] withdrawn-by-none raised-by-none key 10 grant7 300 named (opens .number);
+      not-issued = not-issued-7;
       reads = accepted-as (demoted-still-reads roll7 entered-7 7 demoted-7 [] withdrawn-by-none .checks key 10 grant7 300 named)
           (overwriting-opens-reading key 10 roll7 grant7 300 7 opens);
       not-raised = not-raised-7;
       not-withdrawn = not-withdrawn-7;
-      raises = raises-7;
-      raised = accepted-as (raised-check roll7 entered-7 7 demoted-7 key 10 grant7 300 named overwriting-7 [] withdrawn-by-none raises-7 2) opens;
+      raises = again .number;
+      raised = accepted-as (again .checks key 10 grant7 300 2 named) opens;
     }

@@ -16,7 +16,7 @@ use Rattle.rights.proofs.Rights.{covers-reading, covers-overwriting, within-rea
 use Rattle.roll.specs.declared.Roll.{Roll}
 use Rattle.roll.specs.declared.Entry.{Entry}
 use Rattle.roll.specs.Roll.{isContractor, countOf, figureOf, entryOf, inStanding}
-use Rattle.roll_changes.specs.Changes.{changedEntry, changeNumber, changedRoll}
+use Rattle.roll_changes.specs.Changes.{changeTries, changedEntry, changeNumber, changedRoll}
 use Rattle.histories.specs.Histories.{Change, change, changed, rollAfter, Withdrawn, Raised, IsRoll}
 use Rattle.histories.proofs.Calls.{changing, changed-own, changed-roll, after-roll}
 use Rattle.histories.proofs.Demoted.{stays, stays-low}
@@ -32,7 +32,7 @@ use Rattle.revocation.specs.Claims.{Accepted, SameCheck, OverwritingOpensReadin
 use Rattle.revocation.proofs.Checks.{passed, not-refused}
 use Rattle.revocation.proofs.Others.{same-answers, same-entry}
 use Rattle.revocation.proofs.Claims.{overwriting-opens-reading, only-overwriting-overwrites}
-use Rattle.demotion.specs.Claims.{NoOverwriting, Above}
+use Rattle.demotion.specs.Claims.{NoOverwriting, Raises, Above, IssueAbove}
 
 -- ---- a figure that is not 2
 pub no-overwriting : (roll : Roll) (c : ℕ) → (figureOf roll c ≡ 2 → ⊥) → NoOverwriting roll c
@@ -140,6 +140,36 @@ module _ (key : List ℕ) (rounds : ℕ) (roll : Roll) (grant : List ℕ) (block
       (h .0, (h .1 .0, (h .1 .1 .0, (known, (t .0, (t .1 .0, (covered, (s .0, (s .1 .0, tt)))))))))
       ∙ first-holds _ _ (ap (λ (r : ℕ). withinHighest r (figureOf roll (contractorIn p))) (a .asked) ∙ not-within _ (a .low))
 
+-- and by an issue
+module _ (key : List ℕ) (rounds : ℕ) (roll : Roll) (c block right : ℕ) (out : List ℕ) where
+  before-issue : List Try
+  before-issue =
+      settingsTries (length key) rounds
+      ++ ((4 unless leb 12 (length out)) ∷ (6 unless isContractor c) ∷ (7 unless isRight right) ∷ (20 unless inStanding (countOf roll c)) ∷ [])
+
+  pub issue-twenty-five : issueNumber key rounds roll c block right out ≡ 25 → IssueAbove key rounds roll c block right out
+  unfolding before-issue
+  issue-twenty-five e =
+      let g = given-by 25 (lit< tt) (withinHighest right (figureOf roll c)) [] refl before-issue refl e in
+      let h = g .0 in
+      let t = h .1 .1 in
+      let a = above-highest right (figureOf roll c) (t .1 .1 .0) (g .1) in
+      record {
+        asked = a .0;
+        reads = none-given (issueTries key rounds roll c block 1 out)
+            (h .0, (h .1 .0, (t .0, (t .1 .0, (refl, (t .1 .1 .1 .0, (within-reading _, tt)))))));
+        low = a .1;
+      }
+
+  pub issue-is-above : IssueAbove key rounds roll c block right out → issueNumber key rounds roll c block right out ≡ 25
+  unfolding before-issue
+  issue-is-above a =
+      let h = all-pass (issueTries key rounds roll c block 1 out) refl (a .reads) in
+      let t = h .1 .1 in
+      first-then before-issue ((25 unless withinHighest right (figureOf roll c)) ∷ [])
+      (h .0, (h .1 .0, (t .0, (t .1 .0, (ap isRight (a .asked), (t .1 .1 .1 .0, tt))))))
+      ∙ first-holds _ _ (ap (λ (r : ℕ). withinHighest r (figureOf roll c)) (a .asked) ∙ not-within _ (a .low))
+
 -- ---- a demotion that is accepted
 module _ (roll : Roll) (is : IsRoll roll) (c : ℕ) (accepted : changeNumber roll c 1 ≡ 0) where
   -- the roll after it
@@ -160,41 +190,54 @@ module _ (roll : Roll) (is : IsRoll roll) (c : ℕ) (accepted : changeNumber rol
   standing : inStanding (countOf roll c) ≡ true
   standing = changing roll c 1 accepted .standing
 
+  -- the figure over later calls
+  still-low : (hs : List Change) → (Raised c hs (changedRoll roll c 1) → ⊥) → figureOf (rollAfter hs (changedRoll roll c 1)) c ≡ 2 → ⊥
+  still-low hs n = stays-low hs (changedRoll roll c 1) low-roll c low-figure n
+
   pub never-overwrites : (hs : List Change) → (Raised c hs (changedRoll roll c 1) → ⊥) → NoOverwriting (rollAfter hs (changedRoll roll c 1)) c
-  never-overwrites hs n = no-overwriting (rollAfter hs (changedRoll roll c 1)) c (stays-low hs (changedRoll roll c 1) low-roll c low-figure n)
+  never-overwrites hs n = no-overwriting (rollAfter hs (changedRoll roll c 1)) c (still-low hs n)
 
   -- the count over later calls
   pub same-count : (hs : List Change) → (Withdrawn c hs (changedRoll roll c 1) → ⊥) → countOf (rollAfter hs (changedRoll roll c 1)) c ≡ countOf roll c
   same-count hs n = stays hs (changedRoll roll c 1) c (ap inStanding low-count ∙ standing) n ∙ low-count
 
-  -- raised again after them
-  raised-entry : figureOf roll c ≡ 2 → (hs : List Change) → (Withdrawn c hs (changedRoll roll c 1) → ⊥)
-      → changeNumber (rollAfter hs (changedRoll roll c 1)) c 2 ≡ 0 → entryOf (changedRoll (rollAfter hs (changedRoll roll c 1)) c 2) c ≡ entryOf roll c
-  unfolding changed
-  raised-entry two hs n again =
-      changed-own (change c 2) (rollAfter hs (changedRoll roll c 1)) (after-roll hs (changedRoll roll c 1) low-roll) again
-      ∙ (λ i. record { count = same-count hs n i; figure = sym two i })
-
-  module _ (key : List ℕ) (rounds : ℕ) (grant : List ℕ) (block : ℕ) (named : contractorIn (openedGrant key rounds grant) ≡ c) where
-    pub raised-check : figureOf roll c ≡ 2 → (hs : List Change) → (Withdrawn c hs (changedRoll roll c 1) → ⊥)
-        → changeNumber (rollAfter hs (changedRoll roll c 1)) c 2 ≡ 0
-        → (right : ℕ) → SameCheck key rounds roll (changedRoll (rollAfter hs (changedRoll roll c 1)) c 2) grant block right
-    raised-check two hs n again right =
-        let other = changedRoll (rollAfter hs (changedRoll roll c 1)) c 2 in
-        same-entry key rounds roll other grant block right
-        (subst (λ (d : ℕ). entryOf other d ≡ entryOf roll d) (sym named) (raised-entry two hs n again))
+  -- and while the contractor is not withdrawn
+  module _ (hs : List Change) (n : Withdrawn c hs (changedRoll roll c 1) → ⊥) where
+    abbrev other : Roll
+    other = rollAfter hs (changedRoll roll c 1)
 
     -- what opened for overwriting still reads, and is 25
-    pub above : checkNumber key rounds roll grant block 2 ≡ 0 → checkNumber key rounds (changedRoll roll c 1) grant block 2 ≡ 25
+    pub above : (Raised c hs (changedRoll roll c 1) → ⊥) → (key : List ℕ) (rounds : ℕ) (grant : List ℕ) (block : ℕ)
+        → contractorIn (openedGrant key rounds grant) ≡ c
+        → checkNumber key rounds roll grant block 2 ≡ 0 → checkNumber key rounds other grant block 2 ≡ 25
     unfolding OverwritingOpensReading OnlyOverwritingOverwrites
-    above z =
-        let low = changedRoll roll c 1 in
+    above m key rounds grant block named z =
         let reads = overwriting-opens-reading key rounds roll grant block _ (not-refused key rounds roll grant block 2 z) .number in
-        let same = same-reading key rounds roll low grant block (subst (λ (d : ℕ). countOf low d ≡ countOf roll d) (sym named) low-count) in
-        is-above key rounds low grant block 2
+        let same = same-reading key rounds roll other grant block (subst (λ (d : ℕ). countOf other d ≡ countOf roll d) (sym named) (same-count hs n)) in
+        is-above key rounds other grant block 2
         record {
           asked = refl;
           overwrites = only-overwriting-overwrites key rounds roll grant block z;
           reads = same .number ∙ reads;
-          low = λ two. low-figure (ap (figureOf low) (sym named) ∙ two);
+          low = λ two. still-low hs m (ap (figureOf other) (sym named) ∙ two);
         }
+
+    -- raising is accepted, and the entry is what it was
+    again : changeNumber other c 2 ≡ 0
+    again = none-given (changeTries c 2 (countOf other c))
+        (changing roll c 1 accepted .contractor, (refl, (ap inStanding (same-count hs n) ∙ standing, tt)))
+
+    raised-entry : figureOf roll c ≡ 2 → entryOf (changedRoll other c 2) c ≡ entryOf roll c
+    unfolding changed
+    raised-entry two =
+        changed-own (change c 2) other (after-roll hs (changedRoll roll c 1) low-roll) again
+        ∙ (λ i. record { count = same-count hs n i; figure = sym two i })
+
+    pub raises : figureOf roll c ≡ 2 → Raises roll other c
+    raises two = record {
+      number = again;
+      checks = λ key rounds grant block right named.
+          let raised = changedRoll other c 2 in
+          same-entry key rounds roll raised grant block right
+          (subst (λ (d : ℕ). entryOf raised d ≡ entryOf roll d) (sym named) (raised-entry two));
+    }

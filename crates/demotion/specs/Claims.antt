@@ -30,11 +30,12 @@ DemotedNeverOverwrites = (roll : Roll) → IsRoll roll → (c : ℕ) → changeN
 unfoldable pub OnlyTwoOverwrites : Type 0
 OnlyTwoOverwrites = (roll : Roll) (c : ℕ) → (figureOf roll c ≡ 2 → ⊥) → NoOverwriting roll c
 
--- what opened for overwriting before the demotion is refused with 25 after it
+-- what opened for overwriting before the demotion is refused with 25 after it, until the contractor is raised or withdrawn
 unfoldable pub DemotedIsAbove : Type 0
 DemotedIsAbove = (roll : Roll) → IsRoll roll → (c : ℕ) → changeNumber roll c 1 ≡ 0
+    → (hs : List Change) → (Raised c hs (changedRoll roll c 1) → ⊥) → (Withdrawn c hs (changedRoll roll c 1) → ⊥)
     → (key : List ℕ) (rounds : ℕ) (grant : List ℕ) (block : ℕ) → contractorIn (openedGrant key rounds grant) ≡ c
-    → checkNumber key rounds roll grant block 2 ≡ 0 → checkNumber key rounds (changedRoll roll c 1) grant block 2 ≡ 25
+    → checkNumber key rounds roll grant block 2 ≡ 0 → checkNumber key rounds (rollAfter hs (changedRoll roll c 1)) grant block 2 ≡ 25
 
 -- ---- reading goes on
 -- a check of the contractor's grants for reading answers what it answered on the roll before, so that it opens for reading what it opened for reading,
@@ -52,13 +53,17 @@ DemotedStillReads = (roll : Roll) → IsRoll roll → (c : ℕ) → changeNumber
     → (hs : List Change) → (Withdrawn c hs (changedRoll roll c 1) → ⊥) → ReadsAs roll (rollAfter hs (changedRoll roll c 1)) c
 
 -- ---- raised again
--- a demotion moves no count: whatever is called meanwhile, unless the contractor is withdrawn, raising makes every check of their grants what it was
--- before the demotion, so that those for overwriting open again
+-- raising a contractor on a roll is accepted, and makes every check of their grants what it is on another
+pub record Raises (roll other : Roll) (c : ℕ) : Type 0 where
+  pub number : changeNumber other c 2 ≡ 0
+  pub checks : (key : List ℕ) (rounds : ℕ) (grant : List ℕ) (block right : ℕ) → contractorIn (openedGrant key rounds grant) ≡ c
+      → SameCheck key rounds roll (changedRoll other c 2) grant block right
+
+-- a demotion moves no count: whatever is called after it, unless the contractor is withdrawn, raising them makes every check what it was before it, so
+-- that their grants for overwriting open again
 unfoldable pub RaisedAsBefore : Type 0
 RaisedAsBefore = (roll : Roll) → IsRoll roll → (c : ℕ) → figureOf roll c ≡ 2 → changeNumber roll c 1 ≡ 0
-    → (hs : List Change) → (Withdrawn c hs (changedRoll roll c 1) → ⊥) → changeNumber (rollAfter hs (changedRoll roll c 1)) c 2 ≡ 0
-    → (key : List ℕ) (rounds : ℕ) (grant : List ℕ) (block right : ℕ) → contractorIn (openedGrant key rounds grant) ≡ c
-    → SameCheck key rounds roll (changedRoll (rollAfter hs (changedRoll roll c 1)) c 2) grant block right
+    → (hs : List Change) → (Withdrawn c hs (changedRoll roll c 1) → ⊥) → Raises roll (rollAfter hs (changedRoll roll c 1)) c
 
 -- ---- when 25 is given
 -- exactly where overwriting is asked of a grant to overwrite that opens the size block for reading, so that all else holds that opening asks for, and
@@ -74,6 +79,17 @@ TwentyFiveExactlyAbove = (key : List ℕ) (rounds : ℕ) (roll : Roll) (grant : 
     → (checkNumber key rounds roll grant block right ≡ 25 → Above key rounds roll grant block right)
     × (Above key rounds roll grant block right → checkNumber key rounds roll grant block right ≡ 25)
 
+-- and by an issue exactly where overwriting is asked for a contractor whose figure is not 2, and to whom a grant for reading would be issued
+pub record IssueAbove (key : List ℕ) (rounds : ℕ) (roll : Roll) (c block right : ℕ) (out : List ℕ) : Type 0 where
+  pub asked : right ≡ 2
+  pub reads : issueNumber key rounds roll c block 1 out ≡ 0
+  pub low : figureOf roll c ≡ 2 → ⊥
+
+unfoldable pub IssueTwentyFiveExactlyAbove : Type 0
+IssueTwentyFiveExactlyAbove = (key : List ℕ) (rounds : ℕ) (roll : Roll) (c block right : ℕ) (out : List ℕ)
+    → (issueNumber key rounds roll c block right out ≡ 25 → IssueAbove key rounds roll c block right out)
+    × (IssueAbove key rounds roll c block right out → issueNumber key rounds roll c block right out ≡ 25)
+
 -- ---- all of this happens
 -- under a key of twelve zeros with ten rounds, contractor 7, entered for overwriting on an empty roll, gets a grant to overwrite size block 300
 abbrev pub grant7 : List ℕ
@@ -82,9 +98,10 @@ grant7 = issuedGrant (replicate 12 0) 10 roll7 7 300 2
 pub record Example : Type 0 where
   -- it opens for overwriting
   pub opens : Accepted (replicate 12 0) 10 roll7 grant7 300 2 7
-  -- the demotion is accepted; overwriting is then refused with 25, and reading goes on
+  -- the demotion is accepted; overwriting, and the issue of a grant for it, are then refused with 25, and reading goes on
   pub demoted : changeNumber roll7 7 1 ≡ 0
   pub above : checkNumber (replicate 12 0) 10 (changedRoll roll7 7 1) grant7 300 2 ≡ 25
+  pub not-issued : issueNumber (replicate 12 0) 10 (changedRoll roll7 7 1) 7 300 2 (replicate 12 0) ≡ 25
   pub reads : Accepted (replicate 12 0) 10 (changedRoll roll7 7 1) grant7 300 1 7
   -- there are lists of calls that raise nobody: an enter for overwriting that is refused, since 7 is in standing, a withdrawal, and an enter for reading
   pub not-raised : Raised 7 (enter 7 2 ∷ withdraw 7 ∷ enter 7 1 ∷ []) (changedRoll roll7 7 1) → ⊥

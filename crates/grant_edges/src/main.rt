@@ -35,19 +35,59 @@ fn verdict(v: Verdict) {
     printing::newline();
 }
 
-// A roll on which contractors 1, 2 and 200 have the count and the figure that are read, and everyone else those of an empty one.
-fn echo_roll() -> Roll {
+// Contractors 1, 2 and 200 have the count that is read, and everyone else 0.
+fn echo_counts() -> [u16; 200] {
     let count = (printing::echo() % 65536) as u16;
-    let figure = (printing::echo() % 256) as u8;
     let mut counts = [0u16; 200];
     counts[0] = count;
     counts[1] = count;
     counts[199] = count;
+    counts
+}
+
+fn echo_figure() -> u8 {
+    (printing::echo() % 256) as u8
+}
+
+// A roll to be changed: contractors 1, 2 and 200 have the figure that is read, and everyone else that of an empty one.
+fn echo_roll() -> Roll {
+    let counts = echo_counts();
+    let figure = echo_figure();
     let mut rights = [1u8; 200];
     rights[0] = figure;
     rights[1] = figure;
     rights[199] = figure;
     Roll { counts, rights }
+}
+
+// One contractor has a figure, and everyone else one that means the other right.
+fn rights_with(contractor: u32, figure: u8) -> [u8; 200] {
+    let other: u8 = if figure == 2 { 1 } else { 2 };
+    let mut rights = [other; 200];
+    if 0 < contractor {
+        let at = (contractor - 1) as usize;
+        if at < 200 {
+            rights[at] = figure;
+        }
+    }
+    rights
+}
+
+// A roll to be looked at, and the contractor of the call, who alone has the figure that is read.
+struct Looked {
+    roll: Roll,
+    contractor: u32,
+}
+
+fn echo_looked() -> Looked {
+    let counts = echo_counts();
+    let figure = echo_figure();
+    let contractor = printing::echo_u32();
+    let rights = rights_with(contractor, figure);
+    Looked {
+        roll: Roll { counts, rights },
+        contractor,
+    }
 }
 
 fn figure(n: u8) {
@@ -101,14 +141,13 @@ fn issue_line() {
     let k = printing::echo();
     let r = printing::echo_u32();
     let o = printing::echo();
-    let roll = echo_roll();
-    let c = printing::echo_u32();
+    let looked = echo_looked();
     let right = printing::echo_u32();
     let answer = issuing::issue(
         printing::first(&key, k),
         r,
-        roll,
-        c,
+        looked.roll,
+        looked.contractor,
         300,
         right,
         printing::first_mut(&mut out, o),
@@ -121,9 +160,9 @@ fn byte(n: usize) -> u8 {
     (n % 256) as u8
 }
 
-// Twelve plain bytes that are a grant, or not quite: contractor, count, size block, right and mark are read.
-fn echo_plain() -> [u8; 12] {
-    let c = printing::echo();
+// Twelve plain bytes that are a grant of a contractor, or not quite: count, size block, right and mark are read.
+fn echo_plain(contractor: u32) -> [u8; 12] {
+    let c = contractor as usize;
     let n = printing::echo();
     let b = printing::echo();
     let r = printing::echo();
@@ -153,13 +192,13 @@ fn check_line() {
     let r = printing::echo_u32();
     let l = printing::echo();
     let right = printing::echo_u32();
-    let roll = echo_roll();
-    let plain = echo_plain();
+    let looked = echo_looked();
+    let plain = echo_plain(looked.contractor);
     cipher::encipher(printing::first(&key, 12), 10, &plain, &mut grant);
     verdict(checking::check(
         printing::first(&key, k),
         r,
-        roll,
+        looked.roll,
         printing::first(&grant, l),
         300,
         right,

@@ -1,11 +1,12 @@
 -- The known answers: each is computed from the definitions.
 use mathlib.Core.Path.{refl}
 use Rattle.basics.specs.Cases.{Hold}
+use Rattle.basics.proofs.Cases.{_&_}
 use Rattle.refusal.specs.Tries.{first}
 use Rattle.rights.specs.Rights.{highest, withinHighest}
-use Rattle.roll.specs.Roll.{emptyRoll, countOf, figureOf, inStanding}
+use Rattle.roll.specs.Roll.{emptyRoll, countOf, figureOf, inStanding, withEntry}
 use Rattle.issuing.specs.KnownAnswers.{knownAnswers}
 
 pub known-answers : Hold knownAnswers
-unfolding knownAnswers first highest withinHighest emptyRoll countOf figureOf inStanding
-known-answers = (refl, (refl, (refl, (refl, (refl, (refl, (refl, tt)))))))
+unfolding knownAnswers first highest withinHighest emptyRoll countOf figureOf inStanding withEntry
+known-answers = refl & refl & refl & refl & refl & refl & refl & refl & refl & refl & refl & tt

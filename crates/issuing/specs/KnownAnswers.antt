@@ -1,10 +1,16 @@
 -- Known answers for issuing: the order of refusals where two reasons hold together. The two reasons and the number given are the independent
 -- program's, and its line is the comment; the input is ours.
 use mathlib.Core.List.{List, [], _∷_}
+use Prim.Native.Nat.{ℕ}
 use lib.ListN.{replicate}
 use Rattle.basics.specs.Cases.{Case, _is_}
-use Rattle.roll.specs.Roll.{emptyRoll}
+use Rattle.roll.specs.Roll.{emptyRoll, withEntry}
 use Rattle.issuing.specs.Issuing.{issueNumber}
+
+-- the issue of a grant with a right to contractor 7, who is in standing with this figure
+abbrev pub issueTo7 : ℕ → ℕ → List ℕ
+issueTo7 figure right =
+    issueNumber (replicate 12 0) 10 (withEntry emptyRoll 7 record { count = 1; figure = figure }) 7 300 right (replicate 12 0) ∷ []
 
 unfoldable pub knownAnswers : List Case
 knownAnswers =
@@ -21,4 +27,9 @@ knownAnswers =
     -- document 01's order line has 4 between 2 and 6; that program's issue has no output
     ∷ ((issueNumber (replicate 12 0) 12 emptyRoll 7 300 2 (replicate 11 0) ∷ []) is (2 ∷ []))
     ∷ ((issueNumber (replicate 12 0) 10 emptyRoll 0 300 2 (replicate 11 0) ∷ []) is (4 ∷ []))
+    -- request 6: 25 where overwriting is asked for, unless the figure is 2
+    ∷ (issueTo7 1 2 is (25 ∷ []))
+    ∷ (issueTo7 2 2 is (0 ∷ []))
+    ∷ (issueTo7 3 2 is (25 ∷ []))
+    ∷ (issueTo7 3 1 is (0 ∷ []))
     ∷ []

@@ -30,7 +30,7 @@ fn plain(contractor: u8, count: u8, block: usize, right: u8) -> [u8; 12] {
     ]
 }
 
-// Nine kinds of grants, of which two open for overwriting and four for reading.
+// Fifteen kinds of grants, of which two open for overwriting and eight for reading.
 fn kind(n: usize) -> [u8; 12] {
     if n == 0 {
         plain(1, 1, 300, 2)
@@ -46,8 +46,27 @@ fn kind(n: usize) -> [u8; 12] {
         plain(3, 1, 300, 2)
     } else if n == 6 {
         plain(3, 3, 300, 2)
-    } else if n == 7 {
+    } else {
+        kind_of_reader(n)
+    }
+}
+
+// Those of contractors in standing who may only read.
+fn kind_of_reader(n: usize) -> [u8; 12] {
+    if n == 7 {
         plain(5, 5, 300, 2)
+    } else if n == 8 {
+        plain(7, 7, 300, 1)
+    } else if n == 9 {
+        plain(7, 7, 300, 2)
+    } else if n == 10 {
+        plain(7, 7, 301, 2)
+    } else if n == 11 {
+        plain(9, 9, 300, 2)
+    } else if n == 12 {
+        plain(7, 7, 300, 3)
+    } else if n == 13 {
+        plain(11, 11, 300, 2)
     } else {
         plain(5, 3, 300, 2)
     }
@@ -60,25 +79,34 @@ fn grants() -> [u8; 780] {
     let mut i: usize = 0;
     while i < GRANTS {
         let at = 12 * i;
-        cipher::encipher(&key, 10, &kind(i % 9), &mut out[at..at + 12]);
+        cipher::encipher(&key, 10, &kind(i % 15), &mut out[at..at + 12]);
         i += 1;
     }
     out
 }
 
-// A roll on which contractors 1, 2, 3 and 5 have their numbers as counts, and everyone else none. Contractors 1 and 3 may overwrite, and 5 has a
-// figure that stands for no right.
-fn roll() -> Roll {
+// Contractors 1, 2, 3, 5, 7, 9 and 11 have their numbers as counts, and everyone else has 0.
+fn counts() -> [u16; 200] {
     let mut counts = [0u16; 200];
     counts[0] = 1;
     counts[1] = 2;
     counts[2] = 3;
     counts[4] = 5;
-    let mut rights = [1u8; 200];
-    rights[0] = 2;
-    rights[2] = 2;
+    counts[6] = 7;
+    counts[8] = 9;
+    counts[10] = 11;
+    counts
+}
+
+// Contractors 2 and 7 may only read, and so may 5, 9 and 11, whose figures stand for no right. Everyone else may overwrite.
+fn rights() -> [u8; 200] {
+    let mut rights = [2u8; 200];
+    rights[1] = 1;
     rights[4] = 3;
-    Roll { counts, rights }
+    rights[6] = 1;
+    rights[8] = 0;
+    rights[10] = 255;
+    rights
 }
 
 fn line(grants: &[u8; 780]) {
@@ -94,7 +122,10 @@ fn line(grants: &[u8; 780]) {
     let answer = queue::check(
         printing::first(&key, k),
         r,
-        roll(),
+        Roll {
+            counts: counts(),
+            rights: rights(),
+        },
         lent,
         300,
         right,

@@ -1,5 +1,5 @@
 -- The numbers of the reasons: document 01, "Reasons found in the input" and "Reasons found in the state"; 10 as request 1 has it, 3 and 4
--- also as request 2 has them, 1, 4 and 11 to 13 also as request 3 has them, 3 and 25 also as request 6 has them.
+-- also as request 2 has them, 1 and 4 also as request 3 has them, whose own are 11 to 13, and 3 also as request 6 has it, whose own is 25.
 use Prim.Native.Nat.{ℕ}
 use Rattle.refusal.specs.declared.Reason.{Reason}
 use Rattle.refusal.specs.declared.Reason.the-variants.{KeyLength, RoundCount, InputLength, OutputTooShort, StageOrList, Contractor, UnknownRight}

@@ -5,8 +5,9 @@ use Prim.Native.Nat.{ℕ}
 use lib.ListN.{length, replicate}
 use Rattle.refusal.specs.Tries.{first, answered}
 use Rattle.roll.specs.Roll.{emptyRoll, countOf, figureOf, inStanding, withEntry}
-use Rattle.roll_changes.specs.Changes.{enterTries, enteredRoll, withdrawTries, changeTries}
-use Rattle.histories.specs.Histories.{enter, changed, here, IsRoll}
+use Rattle.roll_changes.specs.Changes.{enterTries, enteredRoll, withdrawTries, changeTries, changedRoll}
+use Rattle.histories.specs.Histories.{enter, changed, Withdrawn, here, later, now-asked, IsRoll}
+use Rattle.histories.specs.Histories as H
 use Rattle.histories.proofs.Calls.{zeros-small, changed-roll, empty-roll}
 use Rattle.histories.proofs.Counts.{left-seen, right-seen}
 use mathlib.Core.Logic.{inl, inr}
@@ -19,7 +20,7 @@ use Rattle.issuing.specs.Issuing.{issueTries}
 use Rattle.checking.specs.Checking.{entryNow, checkTries}
 use Rattle.revocation.specs.Claims.{Issued, OpensExactlyWhen, EachRefusalFirst, IssuedOpens, OverwritingOpensReading, ReadingDoesNotOverwrite}
 use Rattle.revocation.specs.Claims.{OnlyOverwritingOverwrites, TenOnlyForOverwriting, RevokedNeverOpens, RevokedInTwoRooms, RevocationHappens}
-use Rattle.revocation.specs.Claims.{OthersUndisturbed, NumbersTellVerdicts, roll7}
+use Rattle.revocation.specs.Claims.{OthersUndisturbed, NumbersTellVerdicts, roll7, calls7}
 use Rattle.revocation.proofs.Checks.{opening, accepted}
 use Rattle.revocation.proofs.Issued.{checks, revoked, revoked-asked}
 use Rattle.revocation.proofs.Looks.{looks, overwrites, ten}
@@ -87,9 +88,19 @@ pub entered-7 : IsRoll roll7
 unfolding changed
 entered-7 = changed-roll (enter 7 2) emptyRoll empty-roll
 
+pub withdrawn-7 : Withdrawn 7 calls7 roll7
+unfolding first answered emptyRoll countOf figureOf inStanding withEntry enteredRoll changedRoll changed
+withdrawn-7 = later (here refl)
+
 pub revocation-happens : RevocationHappens
-unfolding RevocationHappens first answered emptyRoll countOf figureOf inStanding withEntry enteredRoll
-revocation-happens = ((issued-7 2 refl, entered-7), here refl)
+unfolding RevocationHappens
+revocation-happens = record {
+  issued = issued-7 2 refl;
+  is-roll = entered-7;
+  withdrawn = withdrawn-7;
+  rooms = H.right (H.left (H.right H.none));
+  asked = now-asked;
+}
 
 pub others-undisturbed : OthersUndisturbed
 unfolding OthersUndisturbed

@@ -12,7 +12,7 @@ use Rattle.sizes.specs.Sizes.{keyLength, roundsAllowed}
 use Rattle.roll.specs.declared.Roll.{Roll}
 use Rattle.roll.specs.Roll.{emptyRoll, countOf, figureOf}
 use Rattle.roll_changes.specs.Changes.{enterTries, enteredRoll, withdrawTries, changeTries}
-use Rattle.histories.specs.Histories.{Change, withdraw, rollAfter, Withdrawn, Withdraws, Spares, Merge, IsRoll}
+use Rattle.histories.specs.Histories.{Change, enter, change, withdraw, rollAfter, Withdrawn, Withdraws, Spares, Merge, IsRoll}
 use Rattle.grant.specs.declared.Verdict.{Verdict}
 use Rattle.rights.specs.Rights.{isRight, covers, highest}
 use Rattle.grant.specs.Grants.{plainGrant, contractorIn, rightIn, isGrant, verdictNumber, verdictContractor, verdictRight}
@@ -139,9 +139,20 @@ RevokedInTwoRooms = (key : List ℕ) (rounds : ℕ) (roll : Roll) (contractor bl
     → (xs ys zs : List Change) → Merge xs ys zs → Withdraws contractor xs ⊎ Withdraws contractor ys
     → OpensNothing key rounds (rollAfter zs roll) (issuedGrant key rounds roll contractor block right)
 
--- there are such issues and withdrawals: under a key of twelve zeros with ten rounds contractor 7 gets a grant, and is withdrawn
+-- there are such issues and withdrawals: under a key of twelve zeros with ten rounds contractor 7 gets a grant, is demoted, withdrawn, and entered again
+-- for overwriting; the withdrawal is asked for by one room, and all else by the other
+abbrev pub calls7 : List Change
+calls7 = change 7 1 ∷ withdraw 7 ∷ enter 7 2 ∷ []
+
+pub record RevocationExample : Type 0 where
+  pub issued : Issued (replicate 12 0) 10 roll7 7 300 2 (replicate 12 0)
+  pub is-roll : IsRoll roll7
+  pub withdrawn : Withdrawn 7 calls7 roll7
+  pub rooms : Merge (withdraw 7 ∷ []) (change 7 1 ∷ enter 7 2 ∷ []) calls7
+  pub asked : Withdraws 7 (withdraw 7 ∷ [])
+
 unfoldable pub RevocationHappens : Type 0
-RevocationHappens = (Issued (replicate 12 0) 10 roll7 7 300 2 (replicate 12 0) × IsRoll roll7) × Withdrawn 7 (withdraw 7 ∷ []) roll7
+RevocationHappens = RevocationExample
 
 -- ---- others
 -- a check answers the same on both rolls

@@ -64,7 +64,7 @@ entry-put bytes c entry long small e =
     (drop-set-lt n one (at + 1) (v % 256) (omega (arith, k .most)) ∙ drop-set-lt n bytes at (v / 256 % 256) (omega (arith, k .most))))
 
 -- ---- the empty roll: zeros, then ones, then what stood there
-empty-bytes : replicate countsLength 0 ++ replicate 200 1 ≡ rollBytes emptyRoll
+pub empty-bytes : replicate countsLength 0 ++ replicate 200 1 ≡ rollBytes emptyRoll
 unfolding rollBytes emptyRoll countsBytes
 empty-bytes = refl
 

@@ -1,4 +1,4 @@
 pub mod Pairs
 pub mod Entries
-pub mod Lemmas
+pub mod Claims
 pub mod KnownAnswers

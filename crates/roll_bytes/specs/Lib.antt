@@ -1,4 +1,4 @@
 pub mod RollBytes
 pub mod ForProver
-pub mod Lemmas
+pub mod Claims
 pub mod KnownAnswers

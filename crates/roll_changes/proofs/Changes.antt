@@ -1,8 +1,8 @@
--- What the calls that change a roll by value have to show, whichever change it is: what is tried is `tries` of the contractor's count, and the entry
--- becomes `new` of what it was. And where a call is not refused, its entry can be made.
+-- What the calls that change a roll show, by value and on its bytes, whichever change it is: what is tried, after what comes `earlier`, is `tries` of the
+-- contractor's count, and the entry becomes `new` of what it was. And where a call is not refused, its entry can be made.
 use mathlib.Core.Path.{_≡_, refl, ap, _∙_}
 use mathlib.Core.Bool.{Bool, true, false}
-use mathlib.Core.List.{List}
+use mathlib.Core.List.{List, [], _++_}
 use Prim.Native.Nat.{ℕ, _<_}
 use native.Mathlib.Omega.{arith}
 use borrow.Author.Tests.{ltb-true}
@@ -15,9 +15,41 @@ use Rattle.roll.specs.Roll.{countOf, entryOf, withEntry}
 use Rattle.roll.proofs.Contractors.{a-standing}
 use Rattle.roll_changes.specs.Changes.{enterTries, withdrawTries}
 
--- x is the entry that the code reads, r the number of its tries, b the test of it
-module _ (tries : ℕ → List Try) (new : Entry → Entry) (roll : Roll) (c : ℕ) (x : Entry) (r : ℕ) (b : Bool) (ex : x ≡ entryOf roll c)
-    (er : r ≡ after 0 (tries (x .count))) (eb : b ≡ isRefused r) where
+-- what ran before a call's test of its tries: the entry that was read, the number of the tries, and the test of it
+pub record Ran (earlier : List Try) (tries : ℕ → List Try) (roll : Roll) (c : ℕ) : Type 0 where
+  pub entry : Entry
+  pub number : ℕ
+  pub test : Bool
+  pub is-entry : entry ≡ entryOf roll c
+  pub is-number : number ≡ first (earlier ++ tries (entry .count))
+  pub is-test : test ≡ isRefused number
+  pub numbers : numbered (earlier ++ tries (entry .count)) ≡ true
+
+module _ {earlier : List Try} {tries : ℕ → List Try} {roll : Roll} {c : ℕ} (w : Ran earlier tries roll c) where
+  pub tried : w .number ≡ first (earlier ++ tries (countOf roll c))
+  tried = w .is-number ∙ ap (λ (e : Entry). first (earlier ++ tries (e .count))) (w .is-entry)
+
+  -- where nothing is refused, all that was tried passed
+  pub passed : w .test ≡ false → NoneHolds (earlier ++ tries (w .entry .count))
+  passed h = all-passed (w .number) (earlier ++ tries (w .entry .count)) (w .is-number) (w .test) (w .is-test) (w .numbers) h
+
+  pub with-new : (new : Entry → Entry) (e : Entry) → e ≡ new (w .entry) → withEntry roll c e ≡ withEntry roll c (new (entryOf roll c))
+  with-new new e ee = ap (withEntry roll c) (ee ∙ ap new (w .is-entry))
+
+-- ---- by value: nothing is tried earlier
+abbrev pub ran : (tries : ℕ → List Try) (roll : Roll) (c : ℕ) (x : Entry) (r : ℕ) (b : Bool) → x ≡ entryOf roll c → r ≡ after 0 (tries (x .count))
+    → b ≡ isRefused r → numbered (tries (x .count)) ≡ true → Ran [] tries roll c
+ran tries roll c x r b ex er eb n = record {
+  entry = x;
+  number = r;
+  test = b;
+  is-entry = ex;
+  is-number = er ∙ after-zero 0 (tries (x .count)) refl;
+  is-test = eb;
+  numbers = n;
+}
+
+module _ {tries : ℕ → List Try} {roll : Roll} {c : ℕ} (w : Ran [] tries roll c) (new : Entry → Entry) where
   abbrev ts : List Try
   ts = tries (countOf roll c)
 
@@ -25,21 +57,15 @@ module _ (tries : ℕ → List Try) (new : Entry → Entry) (roll : Roll) (c : �
   made = withEntry roll c (new (entryOf roll c))
 
   abbrev pub Answers : Roll → Type 0
-  Answers y = (r ≡ first ts) × (y ≡ answered (first ts) made roll)
+  Answers y = (w .number ≡ first ts) × (y ≡ answered (first ts) made roll)
 
-  tried : r ≡ first ts
-  tried = er ∙ ap (λ (e : Entry). after 0 (tries (e .count))) ex ∙ after-zero 0 ts refl
+  pub refused : w .test ≡ true → Answers roll
+  refused h = (tried w, answers-refused (w .number) ts (tried w) (w .test) (w .is-test) made roll h)
 
-  pub refused : b ≡ true → Answers roll
-  refused h = (tried, answers-refused r ts tried b eb made roll h)
+  pub done : w .test ≡ false → (e : Entry) → e ≡ new (w .entry) → (y : Roll) → y ≡ withEntry roll c e → Answers y
+  done h e ee y ey = (tried w, ey ∙ with-new w new e ee ∙ answers-done (w .number) ts (tried w) (w .test) (w .is-test) made roll h)
 
-  pub done : b ≡ false → (e : Entry) → e ≡ new x → (y : Roll) → y ≡ withEntry roll c e → Answers y
-  done h e ee y ey = (tried, ey ∙ ap (withEntry roll c) (ee ∙ ap new ex) ∙ answers-done r ts tried b eb made roll h)
-
--- of the count that the code reads
-pub passed : (ts : List Try) (r : ℕ) (b : Bool) → r ≡ after 0 ts → b ≡ isRefused r → numbered ts ≡ true → b ≡ false → NoneHolds ts
-passed ts r b er eb numbers h = all-passed r ts (er ∙ after-zero 0 ts refl) b eb numbers h
-
+-- ---- entries that can be made
 pub may-enter : (c right n : ℕ) → NoneHolds (enterTries c right n) → (isRight right ≡ true) × (n < 65535)
 may-enter c right n h = (h .1 .0, omega (arith, ltb-true n 65534 (h .1 .1 .1 .0)))
 

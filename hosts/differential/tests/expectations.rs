@@ -622,9 +622,10 @@ fn queue_case(grants: usize, out: usize) -> Case {
 }
 
 /// A contractor, a count and a right in a grant, and its byte if reading is asked for, and if
-/// overwriting is. On the roll contractor 7 has count 1, 8 has 2, 9 has 3, 10 has 5, and others have
-/// 0; 7 and 9 may overwrite, 10 has figure 3, and others have 1.
-const QUEUED: [(u8, u8, u8, u8, u8); 15] = [
+/// overwriting is. On the roll contractor 7 has count 1, 8 has 2, 9 has 3, 10 has 5, 11 has 7, 12 has
+/// 9, 13 has 11, and others have 0; 7 and 9 may overwrite, 10 has figure 3, 12 has 0, 13 has 255, and
+/// others have 1.
+const QUEUED: [(u8, u8, u8, u8, u8); 21] = [
     (7, 1, 1, 0, 10),
     (7, 1, 2, 0, 0),
     (7, 1, 3, 8, 8),
@@ -640,6 +641,12 @@ const QUEUED: [(u8, u8, u8, u8, u8); 15] = [
     (10, 5, 2, 0, 25),
     (10, 3, 2, 23, 23),
     (10, 5, 1, 0, 10),
+    (11, 7, 2, 0, 25),
+    (11, 7, 1, 0, 10),
+    (11, 5, 2, 23, 23),
+    (11, 7, 3, 8, 8),
+    (12, 9, 2, 0, 25),
+    (13, 11, 2, 0, 25),
 ];
 
 /// The queue of these grants, asked for a right, and the bytes that it has to get.
@@ -648,7 +655,14 @@ fn mixed_queue(asked: u32) -> (Case, Vec<u8>) {
     let grants = QUEUED.map(|(contractor, count, right, ..)| grant_of(contractor, count, right));
     case.block = grants.concat();
     case.right = asked;
-    for (contractor, count, figure) in [(8, 2, 1), (9, 3, 2), (10, 5, 3)] {
+    for (contractor, count, figure) in [
+        (8, 2, 1),
+        (9, 3, 2),
+        (10, 5, 3),
+        (11, 7, 1),
+        (12, 9, 0),
+        (13, 11, 255),
+    ] {
         set_count(&mut case.roll, contractor, count);
         set_figure(&mut case.roll, contractor, figure);
     }
@@ -702,6 +716,9 @@ fn the_reasons_of_each_grant_in_a_queue() {
     assert_eq!(found[4], [9, 10, 20, 25]);
     assert_eq!(found[11], [9, 10, 23]);
     assert_eq!(found[12], [9, 25]);
+    assert_eq!(found[15], [9, 25]);
+    assert_eq!(found[16], [9, 10, 25]);
+    assert_eq!(found[18], [8]);
     case.size_block -= 1;
     set_count(&mut case.roll, 7, 2);
     let found = expected(&case, &mut Oracle::new()).grants;
@@ -710,6 +727,11 @@ fn the_reasons_of_each_grant_in_a_queue() {
     assert_eq!(found[6], []);
     assert_eq!(found[13], [23, 25]);
     assert_eq!(found[14], [10, 25]);
+    assert_eq!(found[15], [25]);
+    assert_eq!(found[16], [10, 25]);
+    assert_eq!(found[17], [23, 25]);
+    assert_eq!(found[19], [25]);
+    assert_eq!(found[20], [25]);
 }
 
 #[test]

@@ -110,7 +110,8 @@ const QUEUE: &str = "\
 Checks 0 to 64 grants for one size block and one right, and prints a line with
 a verdict for each, in their order: `1: opens`, or `2: refused with 20:
 contractor not in standing`. The verdicts are those of `check`. A grant for
-overwriting also opens its size block for reading.
+overwriting also opens its size block for reading. Where the roll lets its
+contractor only read, it opens for reading, and overwriting is refused with 25.
 
 usage: gordzila queue OPTIONS
 
@@ -269,7 +270,7 @@ as it was, unless the message says that the change is made.
 
 const WITHDRAW: &str = "\
 Withdraws a contractor on the roll in a file. No grant that was issued to them
-before opens on it any more.
+before opens on it any more, and their highest right becomes reading.
 
 usage: gordzila withdraw OPTIONS
 
@@ -301,6 +302,8 @@ open again.
 stay, and who is not in standing gets reading. With overwriting, each grant
 opens for what it opened for. With reading, none overwrites until `gordzila
 right` raises its contractor.
+Hosts from before version 0.6 refuse the converted file with 3. To go back, cut
+it to its first 400 bytes; then all who were demoted overwrite again.
 While `make` or `convert` works there is a file FILE.lock, and no other change
 of the roll starts. A process that was killed may leave it; remove it if you are
 sure that no change is under way.

@@ -136,7 +136,8 @@ impl Roll {
     }
 
     /// Enters a contractor who is not in standing, with their highest right. Refuses with
-    /// [`Reason::Contractor`], [`Reason::InStanding`] or [`Reason::CountSpent`].
+    /// [`Reason::Contractor`], [`Reason::InStanding`] or [`Reason::CountSpent`]. The right of
+    /// someone in standing stays as it is: [`Roll::change_right`] changes it.
     pub fn enter(&mut self, contractor: u32, highest: Right) -> Result<(), Reason> {
         raw::enter(&mut self.0, contractor, highest.number())
     }
@@ -146,10 +147,12 @@ impl Roll {
     /// [`Reason::NotInStanding`].
     ///
     /// With [`Right::Reading`] the contractor is demoted. Their grants go on opening for
-    /// reading, and on this roll none opens for overwriting, which is
-    /// [`Reason::AboveHighest`]. But a demotion ends no grant, because no count changes:
-    /// once the contractor is raised, every grant for overwriting of this standing
-    /// overwrites again. To end these, withdraw the contractor and enter them again.
+    /// reading, and on this roll none opens for overwriting. That is
+    /// [`Reason::AboveHighest`], unless a reason comes before it, as
+    /// [`Reason::OtherRight`] does for a grant for reading and [`Reason::OtherCount`] for one
+    /// of an earlier standing. But a demotion ends no grant, because no count changes: once
+    /// the contractor is raised, every grant for overwriting of this standing overwrites
+    /// again. To end these, withdraw the contractor and enter them again.
     ///
     /// ```
     /// use gordzila::{check, issue, Reason, Right, Roll};

@@ -357,6 +357,8 @@ fn help_tells_what_a_highest_right_does() {
             "refused with 25 where the roll lets the contractor only read",
         ),
         ("check", "overwriting is refused with 25"),
+        ("queue", "overwriting is refused with 25"),
+        ("withdraw", "their highest right becomes reading"),
         ("right", "A demotion ends no grant"),
         (
             "right",
@@ -366,6 +368,14 @@ fn help_tells_what_a_highest_right_does() {
         (
             "roll",
             "With overwriting, each grant opens for what it opened for",
+        ),
+        (
+            "roll",
+            "Hosts from before version 0.6 refuse the converted file with 3",
+        ),
+        (
+            "roll",
+            "cut it to its first 400 bytes; then all who were demoted overwrite again",
         ),
     ] {
         let help = line(&format!("help {name}")).done();

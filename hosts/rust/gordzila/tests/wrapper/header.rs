@@ -3,8 +3,8 @@
 
 use crate::repository_file;
 use gordzila::{
-    Reason, Right, BLOCK_BYTES, HOLDER_BYTES, PAGE_BYTES, PAYLOAD_BYTES, QUEUE_MOST_GRANTS,
-    ROLL_BYTES, SCRATCH_BYTES, STAGE_BYTES,
+    Reason, Right, BLOCK_BYTES, HOLDER_BYTES, OLD_ROLL_BYTES, PAGE_BYTES, PAYLOAD_BYTES,
+    QUEUE_MOST_GRANTS, ROLL_BYTES, SCRATCH_BYTES, STAGE_BYTES,
 };
 
 const HEADER: &str = "include/gordzila.h";
@@ -39,8 +39,9 @@ fn the_rights_and_lengths_are_those_of_the_header() {
     let longest_queue = QUEUE_MOST_GRANTS * BLOCK_BYTES;
     for text in [
         format!("GORDZILA_READING = {reading}, GORDZILA_OVERWRITING = {overwriting}"),
-        format!("GORDZILA_BLOCK_BYTES = {BLOCK_BYTES}, GORDZILA_GRANT_BYTES = {BLOCK_BYTES}"),
-        format!("GORDZILA_ROLL_BYTES = {ROLL_BYTES} }}"),
+        format!("GORDZILA_BLOCK_BYTES = {BLOCK_BYTES}, GORDZILA_GRANT_BYTES = {BLOCK_BYTES} }}"),
+        format!("GORDZILA_ROLL_BYTES = {ROLL_BYTES},"),
+        format!("GORDZILA_ROLL_COUNTS_BYTES = {OLD_ROLL_BYTES} }}"),
         format!("GORDZILA_STAGE_BYTES = {STAGE_BYTES}, GORDZILA_SUBKEY_BYTES = {BLOCK_BYTES},"),
         format!("GORDZILA_HOLDER_BYTES = {HOLDER_BYTES} }}"),
         format!("GORDZILA_QUEUE_MOST_GRANTS = {QUEUE_MOST_GRANTS},"),
@@ -121,7 +122,7 @@ fn in_rust(text: &str) -> Vec<String> {
 }
 
 /// A text with one space for all white space between two words.
-fn in_one_line(text: &str) -> String {
+pub fn in_one_line(text: &str) -> String {
     text.split_whitespace().collect::<Vec<_>>().join(" ")
 }
 

@@ -1,6 +1,7 @@
 //! What a contractor's highest right lets open and be issued, and what becomes of grants
 //! when it changes.
 
+use crate::header::in_one_line;
 use crate::repository_file;
 use gordzila::{check, check_queue, issue, raw, Reason, Right, Roll};
 use Right::{Overwriting, Reading};
@@ -142,19 +143,41 @@ fn an_old_roll_opens_what_it_opened_or_less() {
     assert_eq!(read, Err(Reason::NotInStanding));
 }
 
-/// What a host of 0.5 has to be told stands in the header, in the newest changes.
+/// What a host of 0.5 has to be told stands in the header, in the newest changes, and in an
+/// order in which it can be done: a roll that is converted first stops the hosts of 0.5.
 #[test]
 fn the_header_tells_of_rolls_of_400_bytes() {
     let header = repository_file("include/gordzila.h");
     let (_, newest) = header.split_once("\n * Changes in 0.6.0").unwrap();
     let (newest, _) = newest.split_once("\n * Changes in ").unwrap();
-    let text = newest.replace("\n *", "");
-    let text = text.split_whitespace().collect::<Vec<_>>().join(" ");
+    let text = in_one_line(&newest.replace("\n *", "\n"));
+    let mut rest = &text[..];
     for words in [
+        "Hosts that share a roll change over together",
         "one of 400 is refused with 3",
+        "a host of 0.5 refuses the longer roll with 3",
+        "cuts the roll to its first 400 bytes",
+        "gordzila_enter takes the contractor's highest right as a fourth argument",
+        "gordzila_change_right is new",
         "Append 200 bytes to each that is stored",
         "2 for those who may overwrite, 1 for all others",
+        "GORDZILA_ROLL_COUNTS_BYTES: convert it",
+        "GORDZILA_ROLL_BYTES: use it",
+        "Any other: stop",
+        "with one right for all in standing: `gordzila roll convert --roll FILE --right R`",
+        "`gordzila right --roll FILE --contractor N --right R` changes single ones",
     ] {
-        assert!(text.contains(words), "{words}: {text}");
+        let found = rest.split_once(words);
+        rest = found.unwrap_or_else(|| panic!("{words}: {text}")).1;
     }
+}
+
+/// Over a roll in use, the empty roll would let revoked grants open.
+#[test]
+fn the_header_warns_of_the_empty_roll() {
+    let header = repository_file("include/gordzila.h");
+    let (before, _) = header.split_once("uint32_t gordzila_empty_roll(").unwrap();
+    let (_, comment) = before.rsplit_once("/*").unwrap();
+    let text = in_one_line(&comment.replace("\n *", "\n"));
+    assert!(text.contains("Beware: for a new store only."), "{text}");
 }

@@ -27,15 +27,26 @@ fn grant([contractor, count, block, right]: [u8; 4]) -> [u8; 12] {
     encipher(&KEY, ROUNDS, &plain).unwrap()
 }
 
-/// A grant for each of 4 contractors, the last of whom there is not, 2 counts, the size
-/// blocks 300 and 301, and 4 rights, two of which there are not.
+/// Whom the pile's grants name, and at which count: 3 contractors with 2 counts each, and the
+/// numbers below 1 and above 200, which are nobody's.
+const NAMED: [(u8, u8); 8] = [
+    (7, 1),
+    (7, 3),
+    (8, 1),
+    (8, 3),
+    (9, 1),
+    (9, 3),
+    (0, 1),
+    (201, 1),
+];
+
+/// A grant for each of these, the size blocks 300 and 301, and 4 rights, two of which there
+/// are not.
 fn pile() -> Vec<[u8; 12]> {
     let mut pile = Vec::new();
-    for contractor in [7, 8, 9, 201] {
-        for count in [1, 3] {
-            for block in [44, 45] {
-                pile.extend([2, 1, 0, 3].map(|right| grant([contractor, count, block, right])));
-            }
+    for (contractor, count) in NAMED {
+        for block in [44, 45] {
+            pile.extend([2, 1, 0, 3].map(|right| grant([contractor, count, block, right])));
         }
     }
     assert_eq!(pile.len(), QUEUE_MOST_GRANTS);
@@ -53,6 +64,8 @@ fn each_grant_gets_the_verdict_of_the_rules() {
         [0; 12],
         grant([9, 1, 44, 2]),
         grant([9, 3, 44, 2]),
+        grant([0, 1, 44, 2]),
+        grant([201, 1, 44, 2]),
         grant([7, 1, 44, 2]),
     ];
     for (right, second, seventh) in [
@@ -72,6 +85,8 @@ fn each_grant_gets_the_verdict_of_the_rules() {
             Err(Reason::NotAGrant),
             seventh,
             Err(Reason::OtherCount),
+            Err(Reason::NotAGrant),
+            Err(Reason::NotAGrant),
             Ok(()),
         ];
         let verdicts = check_queue(&KEY, ROUNDS, &roll(), &pile, 300, right).unwrap();

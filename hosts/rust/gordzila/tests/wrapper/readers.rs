@@ -1,17 +1,24 @@
-//! The readers of answers stand in the header as code. What the wrapper makes of an
-//! answer has to be what they say of it.
+//! The readers of answers and of rights stand in the header as code. What the wrapper makes
+//! of an answer or of a roll has to be what they say of it.
 
+use crate::header::in_one_line;
 use crate::repository_file;
-use gordzila::{raw, KeyHolder, Opened, PageHeader, PageKeys, Right, Roll, Walked, Way};
+use gordzila::{
+    raw, KeyHolder, Opened, PageHeader, PageKeys, Right, Roll, Walked, Way, ROLL_BYTES,
+};
 
-/// The readers, each as it stands in the header.
-const READERS: [&str; 12] = [
+/// The readers, each as it stands in the header, in one line.
+const READERS: [&str; 13] = [
     "int gordzila_opens(uint32_t answer) { return answer >= 1000; }",
     "uint32_t gordzila_answered_right(uint32_t answer) { return answer / 1000; }",
     "uint32_t gordzila_answered_contractor(uint32_t answer) \
      { return gordzila_opens(answer) ? answer % 1000 : 0; }",
     "int gordzila_queue_opens(uint32_t returned, uint8_t byte) \
      { return returned == 0 && byte == 0; }",
+    "uint32_t gordzila_highest_right(const uint8_t *roll, uint32_t contractor) \
+     { if (contractor < 1 || contractor > 200) { return 0; } \
+     return roll[GORDZILA_ROLL_COUNTS_BYTES + contractor - 1] == GORDZILA_OVERWRITING \
+     ? GORDZILA_OVERWRITING : GORDZILA_READING; }",
     "int gordzila_page_opens(uint64_t answer) { return answer >> 63 == 1; }",
     "uint32_t gordzila_page_refusal(uint64_t answer) \
      { return gordzila_page_opens(answer) ? 0 : (uint32_t)answer; }",
@@ -39,6 +46,15 @@ fn read_queue(returned: u32, byte: u8) -> bool {
     returned == 0 && byte == 0
 }
 
+/// What the fifth says: the highest right of a contractor, or 0.
+fn read_highest(roll: &[u8], contractor: u32) -> u32 {
+    match contractor {
+        1..=200 if roll[400 + contractor as usize - 1] == 2 => 2,
+        1..=200 => 1,
+        _ => 0,
+    }
+}
+
 /// What the next five say: whether a page opens, the number of the refusal, the size block,
 /// the page number and the used count.
 fn read_page(answer: u64) -> (bool, u32, u32, u16, u16) {
@@ -61,9 +77,11 @@ fn read_walk(answer: u32) -> (bool, u32, bool) {
 #[test]
 fn the_readers_are_those_of_the_header() {
     let header = repository_file("include/gordzila.h");
+    // A reader goes up to the next one or to a line without words.
     let readers = header
-        .lines()
-        .filter_map(|line| line.strip_prefix("static inline "));
+        .split("\nstatic inline ")
+        .skip(1)
+        .map(|rest| in_one_line(rest.split("\n\n").next().unwrap()));
     assert_eq!(readers.collect::<Vec<_>>(), READERS);
 }
 
@@ -108,6 +126,29 @@ fn a_queue_says_what_the_reader_says() {
             Err(_) => vec![false; 3],
         };
         assert_eq!(said, answers.map(|byte| read_queue(returned, byte)));
+    }
+}
+
+/// Any byte in the place of a contractor's right. Those of all others mean the other thing,
+/// so that a right that is read in another place is found out.
+#[test]
+fn a_roll_says_what_the_reader_says() {
+    for contractor in [0, 1, 7, 200, 201, 257, u32::MAX] {
+        for figure in 0..=u8::MAX {
+            let mut bytes = [if figure == 2 { 1 } else { 2 }; ROLL_BYTES];
+            if let Some(byte) = bytes.get_mut(399 + contractor as usize) {
+                *byte = figure;
+            }
+            let roll = Roll::from_bytes(&bytes).unwrap();
+            let said = roll.highest_right(contractor).map_or(0, Right::number);
+            let expected = match (contractor, figure) {
+                (1..=200, 2) => 2,
+                (1..=200, _) => 1,
+                _ => 0,
+            };
+            assert_eq!(said, expected, "{contractor}, {figure}");
+            assert_eq!(said, read_highest(&bytes, contractor));
+        }
     }
 }
 
