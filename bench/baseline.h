@@ -52,6 +52,7 @@ enum answer {
     NOT_A_PAGE = 11,
     PAYLOAD_TOO_LONG = 12,
     OTHER_CHECK = 13,
+    BLOCK_ZERO = 14,
     NOT_IN_STANDING = 20,
     OTHER_COUNT = 23,
     BROKEN_HOLDER = 24,

@@ -209,6 +209,8 @@ static uint32_t check(const uint8_t *key, size_t key_len, uint32_t rounds,
         return INPUT_LENGTH;
     if (!is_right(right))
         return RIGHT;
+    if (size_block == 0)
+        return BLOCK_ZERO;
     fill_list(DECIPHERING, key, key_len, rounds, list);
     run_list(list, rounds, grant, plain);
     return check_plain(plain, roll, size_block, right);
@@ -234,6 +236,8 @@ static uint32_t check_queue(const uint8_t *key, size_t key_len,
         return OUTPUT_TOO_SHORT;
     if (!is_right(right))
         return RIGHT;
+    if (size_block == 0)
+        return BLOCK_ZERO;
     fill_list(DECIPHERING, key, key_len, rounds, list);
     for (size_t i = 0; i < grants_len / BLOCK; i++) {
         uint32_t answer;
@@ -321,6 +325,8 @@ static uint32_t seal_page(const uint8_t *first_key, size_t first_key_len,
         return refusal;
     if (scratch_len < SCRATCH || out_len < PAGE)
         return OUTPUT_TOO_SHORT;
+    if (size_block == 0)
+        return BLOCK_ZERO;
     if (payload_len > PAYLOAD)
         return PAYLOAD_TOO_LONG;
     put_number(out, 4, size_block);

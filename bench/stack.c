@@ -153,6 +153,7 @@ static void try_check(struct call right) {
     try_settings(CHECK, right);
     call.in_length = 11, try(CHECK, call, GORDZILA_INPUT_LENGTH);
     call = right, call.right = 3, try(CHECK, call, GORDZILA_RIGHT);
+    call = right, call.size_block = 0, try(CHECK, call, GORDZILA_BLOCK_ZERO);
     call = right, call.in = none, try(CHECK, call, GORDZILA_NOT_A_GRANT);
     call = right, call.size_block = 301, try(CHECK, call, GORDZILA_OTHER_BLOCK);
     call = right, call.in = reading, try(CHECK, call, GORDZILA_OTHER_RIGHT);
@@ -175,6 +176,7 @@ static void try_queue(struct call right) {
     call = right, call.in_length = 767, try(QUEUE, call, GORDZILA_INPUT_LENGTH);
     call = right, call.out_length = 63, try(QUEUE, call, GORDZILA_OUTPUT_TOO_SHORT);
     call = right, call.right = 3, try(QUEUE, call, GORDZILA_RIGHT);
+    call = right, call.size_block = 0, try(QUEUE, call, GORDZILA_BLOCK_ZERO);
 }
 
 /* What the calls that change a roll refuse: its length, a number of no contractor, and, if they are given a right, one that is none. */
@@ -221,6 +223,7 @@ static void try_page(struct call right, size_t used) {
     try_page_settings(SEAL, right);
     struct call call = right;
     call.in_length = 493, try(SEAL, call, GORDZILA_PAYLOAD_TOO_LONG);
+    call = right, call.size_block = 0, try(SEAL, call, GORDZILA_BLOCK_ZERO);
     seal(&right);
     memcpy(page, out, sizeof page);
     right.in = page, right.in_length = sizeof page;

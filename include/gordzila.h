@@ -26,6 +26,22 @@
  *    them lent: rooms or threads that share a roll make their calls on it one after the other.
  *  - Their time depends on the key and the data: they are not made to resist an observer of time.
  *
+ * Changes in 0.7.0, for hosts that were written for 0.6:
+ *  - Size block number 0, which was for practice, can no longer be asked for. Reason 14 is new: gordzila_issue, gordzila_check and
+ *    gordzila_check_queue give it where size_block is 0, right after 7 in their order, and gordzila_seal_page right after 4. It is about
+ *    the number that the host hands over; no grant is deciphered before it. A switch over the reasons of these calls may meet it. It
+ *    refuses a queue as a whole, so that no byte of answers is 14.
+ *  - Some makers' forms send 0 where the size block is left blank, and that is 14 now. It is a mistake of the form and says nothing of
+ *    the grant: have the number filled in and ask again, and throw no grant away for it.
+ *  - Grants that were issued for 0 open nothing any more: asked for 0 they are refused with 14, asked for another size block with 9. Hosts
+ *    that keep grants by their size block can throw away those for 0. Nothing is to be done on the roll: the entries of their
+ *    contractors stay as they are, and so do their grants for other size blocks.
+ *  - Pages that were sealed for 0 still open, and answer size block 0, but no new one is sealed. To keep such a page up to date, open it
+ *    and seal what it holds for another size block.
+ *  - Grants, pages and rolls have the bytes that they had: nothing stored is converted, and hosts may change over one after the other.
+ *    Until it changes over, a host of 0.6 goes on issuing, opening and sealing for 0.
+ *  - No call changed its form, and no constant its name or number.
+ *
  * Changes in 0.6.0, for hosts that were written for 0.5, in the order in which to make them:
  *  1. Hosts that share a roll change over together. A roll of 0.5 has 400 bytes, the counts. It now has GORDZILA_ROLL_BYTES bytes, and
  *     one of 400 is refused with 3; a host of 0.5 refuses the longer roll with 3 too. So change and build the code of all of them
@@ -104,12 +120,13 @@ enum {
     GORDZILA_NOT_A_PAGE = 11,       /* page not 512 bytes; used count over 492; bytes 8 to 11, or unused payload bytes, not zero */
     GORDZILA_PAYLOAD_TOO_LONG = 12, /* payload over 492 bytes */
     GORDZILA_CHECK_DIFFERS = 13,    /* the page's check differs */
+    GORDZILA_BLOCK_ZERO = 14,       /* size block number 0 asked for */
     /* found in the state */
     GORDZILA_NOT_IN_STANDING = 20,  /* contractor not in standing */
     GORDZILA_IN_STANDING = 21,      /* entering someone in standing */
     GORDZILA_COUNT_SPENT = 22,      /* entering at count 65,534 or 65,535 */
     GORDZILA_OTHER_COUNT = 23,      /* the grant's count differs from the roll's */
-    GORDZILA_BROKEN_HOLDER = 24,    /* holder not 26 bytes, or not whole: a wrong key length, a stage number that is not below it, or bytes past it */
+    GORDZILA_BROKEN_HOLDER = 24,    /* holder not 26 bytes, or not whole: a wrong key length, a stage number not below it, or bytes past it that are not zero */
     GORDZILA_ABOVE_HIGHEST = 25     /* right asked for above the contractor's highest */
 };
 
@@ -147,11 +164,13 @@ enum { GORDZILA_QUEUE_MOST_GRANTS = 64, GORDZILA_LONGEST_QUEUE_BYTES = 768 };
  * Checks a grant for one size block and one right. A reading grant opens its size block where reading is asked for, an
  * overwriting grant where reading is, and where overwriting is if that is its contractor's highest right on the roll.
  *
- * Returns the number of the first of these reasons that holds: 1, 2, 3 (grant or roll), 7, 8, 9, 10, 20, 23, 25. Otherwise the
+ * Returns the number of the first of these reasons that holds: 1, 2, 3 (grant or roll), 7, 14, 8, 9, 10, 20, 23, 25. Otherwise the
  * grant opens the size block, and the answer is 1,000 times the right asked for plus the contractor: 1001 to 1200 for reading,
  * 2001 to 2200 for overwriting. The right in the answer is the one asked for, and not the grant's: an overwriting grant that is
  * asked for reading answers 1001 to 1200. 25 too is about the right asked for: the overwriting grant of a contractor who may only read
- * opens for reading.
+ * opens for reading. And 14 is about the size block asked for: it says that this is 0, and nothing of the grant. A grant that was issued
+ * for size block 0, before 0.7.0, opens nothing: asked for 0 it is 14, and asked for another size block 9, where no reason comes before
+ * these.
  */
 uint32_t gordzila_check(const uint8_t *key, size_t key_length, uint32_t rounds, const uint8_t *roll, size_t roll_length,
                         const uint8_t *grant, size_t grant_length, uint32_t size_block, uint32_t right);
@@ -168,15 +187,15 @@ static inline uint32_t gordzila_answered_contractor(uint32_t answer) { return go
  * each grant.
  *
  * Returns the number of the first of these reasons that holds: 1, 2, 3 (roll, or grants over 768 bytes or no multiple of 12),
- * 4 (answers shorter than the number of grants), 7. They refuse the whole call, and nothing is written. 65 grants are 3, however long
- * answers is.
+ * 4 (answers shorter than the number of grants), 7, 14. They refuse the whole call, and nothing is written. 65 grants are 3, however
+ * long answers is.
  *
  * Otherwise it returns 0, and answers has one byte for each grant, in their order: 0 if the grant opens, else the number with which
  * gordzila_check refuses it, which is 8, 9, 10, 20, 23 or 25. A grant that is refused does not stop those after it. Bytes of answers past
  * the number of grants stay. Take every byte but 0 for a refusal: later versions may have more numbers.
  *
- * Without grants it returns 0 and writes nothing, where the other arguments are right: with right 3 it returns 7 all the same. As
- * for every call, the pointers are not null even then.
+ * Without grants it returns 0 and writes nothing, where the other arguments are right: with right 3 it returns 7 all the same, and
+ * with size block 0 it returns 14. As for every call, the pointers are not null even then.
  *
  * Beware of 0. A byte of 0 opens, but gordzila_check never answers 0, and what opens there is 1000 or more: never hand a byte to
  * gordzila_opens. A return of 0 does not say that a grant opens, only that each has its byte. And where the call refuses, answers
@@ -245,9 +264,9 @@ static inline uint32_t gordzila_highest_right(const uint8_t *roll, uint32_t cont
 }
 
 /*
- * Issues a grant to a contractor in the standing that the roll has for them, for a right up to their highest: 12 bytes to out. A grant
- * for overwriting also opens its size block for reading, so that nobody needs one of each. Returns 0, or the number of the first reason
- * that holds. Order: 1, 2, 3 (roll), 4, 6, 7, 20, 25.
+ * Issues a grant to a contractor in the standing that the roll has for them, for a size block other than 0 and a right up to their
+ * highest: 12 bytes to out. A grant for overwriting also opens its size block for reading, so that nobody needs one of each. Returns 0,
+ * or the number of the first reason that holds. Order: 1, 2, 3 (roll), 4, 6, 7, 14, 20, 25.
  */
 uint32_t gordzila_issue(const uint8_t *key, size_t key_length, uint32_t rounds, const uint8_t *roll, size_t roll_length,
                         uint32_t contractor, uint32_t size_block, uint32_t right, uint8_t *out, size_t out_length);
@@ -289,8 +308,9 @@ uint32_t gordzila_issue(const uint8_t *key, size_t key_length, uint32_t rounds, 
  *  - What is proved is what the calls answer and write. That nobody without the keys can read a payload, or make a page that opens, is
  *    not.
  *
- * Seals a page: 512 bytes to out. The payload has 0 to 492 bytes, of any content. Returns 0, or the number of the first reason that
- * holds. Order: 1 (also where the keys are equal or of unequal lengths), 2, 4 (scratch under 576 or out under 512), 12.
+ * Seals a page of a size block other than 0: 512 bytes to out. The payload has 0 to 492 bytes, of any content. Returns 0, or the number
+ * of the first reason that holds. Order: 1 (also where the keys are equal or of unequal lengths), 2, 4 (scratch under 576 or out under
+ * 512), 14, 12.
  */
 uint32_t gordzila_seal_page(const uint8_t *first_key, size_t first_key_length, const uint8_t *second_key, size_t second_key_length,
                             uint32_t rounds, uint32_t size_block, uint16_t page_number, const uint8_t *payload,
@@ -305,8 +325,9 @@ uint32_t gordzila_seal_page(const uint8_t *first_key, size_t first_key_length, c
  * again (unused payload bytes not zero). Where it refuses, out keeps what stood there, also after 13. A used count that was changed
  * to another one of 492 or less is left to the check: 13.
  *
- * Otherwise the answer is 2^63 + 2^48 * used + 2^32 * page number + size block. It takes 64 bits: cut to 32, as gordzila_opens would
- * cut it, it would be the size block alone, and size block 0, 13 or 1007 would look like other answers. The readers below take it whole.
+ * Otherwise the answer is 2^63 + 2^48 * used + 2^32 * page number + size block. A page that was sealed for size block 0, before 0.7.0, is
+ * not refused for that: it opens, and the size block in the answer is 0. The answer takes 64 bits: cut to 32, as gordzila_opens would cut
+ * it, it would be the size block alone, and size block 0, 13 or 1007 would look like other answers. The readers below take it whole.
  */
 uint64_t gordzila_open_page(const uint8_t *first_key, size_t first_key_length, const uint8_t *second_key, size_t second_key_length,
                             uint32_t rounds, const uint8_t *page, size_t page_length, uint8_t *scratch, size_t scratch_length,
@@ -316,7 +337,10 @@ uint64_t gordzila_open_page(const uint8_t *first_key, size_t first_key_length, c
 static inline int gordzila_page_opens(uint64_t answer) { return answer >> 63 == 1; }
 static inline uint32_t gordzila_page_refusal(uint64_t answer) { return gordzila_page_opens(answer) ? 0 : (uint32_t)answer; }
 
-/* And what the page was sealed with: the size block, the page number, and how many bytes of the payload are used; 0 where it is refused. */
+/*
+ * And what the page was sealed with: the size block, the page number, and how many bytes of the payload are used; 0 where it is refused. A
+ * page that opens may have 0 in each of them too, the size block among them: ask gordzila_page_opens whether it opens.
+ */
 static inline uint32_t gordzila_opened_size_block(uint64_t answer) { return gordzila_page_opens(answer) ? (uint32_t)answer : 0; }
 static inline uint16_t gordzila_opened_page_number(uint64_t answer) { return gordzila_page_opens(answer) ? (uint16_t)(answer >> 32) : 0; }
 static inline uint16_t gordzila_opened_used(uint64_t answer) { return gordzila_page_opens(answer) ? (uint16_t)(answer >> 48 & 32767) : 0; }
@@ -354,8 +378,9 @@ uint32_t gordzila_subkey(const uint8_t *key, size_t key_length, uint32_t n, uint
 
 /*
  * The key holder: one stage of a key, in 26 bytes that the host keeps. They are the key's length, the stage's number, and the 24 bytes
- * of the stage with zeros past the key's length. A holder of other bytes, or not of 26, is refused with 24. Steps lead from any stage to
- * stage 0, so these bytes are as secret as the key.
+ * of the stage with zeros past the key's length. 26 bytes with another key length, a stage number not below it, or non-zero bytes past
+ * it, and a holder not of 26 bytes, are refused with 24. The stage's own bytes may be any. Steps lead from any stage to stage 0, so these
+ * bytes are as secret as the key.
  *
  * Make a holder of a key at stage 0: 26 bytes to out. Order: 1, 4.
  */

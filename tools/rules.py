@@ -74,11 +74,11 @@ def above_highest(right, figure):
     return right == 2 and figure != 2
 
 
-def plain_reasons(now, figure, right, contractor, written, block, granted, mark):
-    """What holds of a grant's plain bytes, asked for size block 300 and a right, where its contractor has the count now and the figure."""
+def plain_reasons(now, figure, asked, right, contractor, written, block, granted, mark):
+    """What holds of a grant's plain bytes, asked for a size block and a right, where its contractor has the count now and the figure."""
     return {
         8: mark != MARK or not on_roll(contractor) or granted not in (1, 2),
-        9: block != 300,
+        9: block != asked,
         10: granted == 1 and right == 2,
         20: not stands(now),
         23: written != now,
@@ -98,11 +98,10 @@ def rows(right, reasons, faults, limits):
         chosen.append({**right, **faults[reason]})
         if not reasons(**chosen[-1])[reason]:
             raise ValueError(f"the fault for {reason} does not make it hold")
-    for one, other in itertools.combinations(sorted(faults, key=number_of), 2):
-        both = {**right, **faults[one], **faults[other]}
-        held = reasons(**both)
-        if held[one] and held[other]:
-            chosen.append(both)
+    for pair in itertools.combinations(sorted(faults, key=number_of), 2):
+        # two faults may give one input different numbers; which of the two it gets decides whether both hold
+        made = [{**right, **faults[one], **faults[other]} for one, other in (pair, pair[::-1])]
+        chosen += [both for both in made if all(reasons(**both)[reason] for reason in pair)][:1]
     return distinct(chosen + [{**right, **limit} for limit in limits])
 
 

@@ -6,13 +6,14 @@
  * says, byte by byte.
  *
  * Of each of 11 keys with each of 13 round counts there are 25 lengths of input and output for 2 directions, 3 outputs for 2 lists, and
- * 175 issues (5 rights, 7 rolls, 5 outputs) with 5 checks each: 143 * 1,106. Of the 6 of these pairs that are right there are, for each
- * of 3 contractors, 5 grants that are enciphered here, each checked for 5 rights and 2 size blocks on rolls with 3 counts and 5 highest
- * rights, and to each of 6 contractors issues for 5 rights with 2 counts and 5 highest rights: 6 * (3 * 5 * 151 + 300). Of each key there
- * are 10 stages in 5 outputs, for 2 calls: 1,100. The engine has 11 * 5 * 5 lengths. On rolls of 7 lengths, 6 contractors with 7 counts
- * and 5 highest rights are withdrawn, and entered and changed with 5 rights: 1,470 * 11. The empty roll has 7 outputs. The header's
- * reader of highest rights is asked for 6 contractors with 256 figures: 1,536. On both sides, 2 * (158,158 + 15,390 + 1,100 + 275 +
- * 16,170 + 7 + 1,536) are 385,272 calls. Prints how many did what they have to; the status is 1 where one did not.
+ * 1,050 issues (6 size blocks, 5 rights, 7 rolls, 5 outputs) with 5 checks each: 143 * 6,356. Of the 6 of these pairs that are right
+ * there are, for each of 3 contractors, 30 grants that are enciphered here (6 size blocks, 5 rights), each checked for 6 size blocks and 5
+ * rights on rolls with 3 counts and 5 highest rights, and to each of 6 contractors issues for 6 size blocks and 5 rights with 2 counts and
+ * 5 highest rights: 6 * (3 * 30 * 451 + 1,800). Of each key there are 10 stages in 5 outputs, for 2 calls: 1,100. The engine has
+ * 11 * 5 * 5 lengths. On rolls of 7 lengths, 6 contractors with 7 counts and 5 highest rights are withdrawn, and entered and changed with
+ * 5 rights: 1,470 * 11. The empty roll has 7 outputs. The header's reader of highest rights is asked for 6 contractors with 256 figures:
+ * 1,536. On both sides, 2 * (908,908 + 254,340 + 1,100 + 275 + 16,170 + 7 + 1,536) are 2,364,672 calls. Prints how many did what they have
+ * to; the status is 1 where one did not.
  */
 #include "guard.h"
 #include "rules.h"
@@ -28,6 +29,8 @@ static const unsigned counts[] = {0, 1, 2, 65532, 65533, 65534, 65535};
 static const uint8_t highest_rights[] = {0, 1, 2, 3, 255};
 static const uint32_t rights[] = {0, 1, 2, 3, 258};
 static const uint8_t rights_in_grants[] = {0, 1, 2, 3, 255};
+/* Some have one byte alone that is not 0, each in another place, so that a number that is cut is found out. */
+static const uint32_t size_blocks[] = {0, 1, 256, 65536, 16777216, 0xffffffffu};
 static const uint32_t stages[] = {0, 1, 11, 12, 17, 18, 23, 24, 256, 0xffffffffu};
 
 static struct lent key, input, roll, out;
@@ -81,19 +84,22 @@ static void check(uint32_t rounds, uint32_t contractor, uint32_t block, uint32_t
           expected == 0 ? 1000 * asked + contractor : expected, NULL, 0);
 }
 
-/* Checks the bytes that an issue for a right has left, for each right. Where the right was none, they are no grant. */
-static void check_issued(uint32_t rounds, uint32_t issued) {
+/*
+ * Checks the bytes that an issue for a right and a size block has left, for each right and that size block. Where the right was none,
+ * they are no grant.
+ */
+static void check_issued(uint32_t rounds, uint32_t issued, uint32_t block) {
     int fits = roll.length == GORDZILA_ROLL_BYTES && input.length == 12;
     uint32_t start = then(of_rounds(key.length, rounds), !fits, GORDZILA_INPUT_LENGTH);
     for (size_t i = 0; i < COUNT(rights); i++) {
-        uint32_t expected = then(start, !is_right(rights[i]), GORDZILA_RIGHT);
+        uint32_t expected = of_asked(start, rights[i], block);
         expected = then(expected, !is_right(issued), GORDZILA_NOT_A_GRANT);
-        check(rounds, 7, 300, rights[i], then(expected, falls_short(issued, rights[i]), GORDZILA_OTHER_RIGHT));
+        check(rounds, 7, block, rights[i], then(expected, falls_short(issued, rights[i]), GORDZILA_OTHER_RIGHT));
     }
 }
 
 /* Issues to contractor 7 and checks what was issued, on rolls and outputs of several lengths. */
-static void grant(uint32_t rounds, uint32_t right) {
+static void grant(uint32_t rounds, uint32_t right, uint32_t block) {
     for (size_t r = 0; r < COUNT(roll_lengths); r++) {
         for (size_t o = 0; o < COUNT(small_lengths); o++) {
             int fits = roll_lengths[r] == GORDZILA_ROLL_BYTES;
@@ -103,19 +109,23 @@ static void grant(uint32_t rounds, uint32_t right) {
             lend_entry(7, (struct entry){1, 2}, roll_lengths[r]);
             lend_any(&out, small_lengths[o]);
             judge("issue",
-                  gordzila_issue(key.at, key.length, rounds, roll.at, roll.length, 7, 300, right, out.at, out.length),
-                  then(expected, !is_right(right), GORDZILA_RIGHT), &out, 12);
+                  gordzila_issue(key.at, key.length, rounds, roll.at, roll.length, 7, block, right, out.at, out.length),
+                  of_asked(expected, right, block), &out, 12);
             memcpy(given, out.at, out.length);
             lend(&input, given, out.length);
             lend_any(&out, 0);
-            check_issued(rounds, right);
+            check_issued(rounds, right, block);
         }
     }
 }
 
-/* A grant to a contractor for size block 300, of count 1, with any byte as its right: plain bytes, enciphered. */
-static void lend_grant(uint32_t rounds, uint8_t contractor, uint8_t right) {
-    const uint8_t plain[12] = {0, contractor, 0, 1, 0, 0, 300 / 256, 300 % 256, right, 0x47, 0x52, 0x44};
+/*
+ * A grant to a contractor of count 1, for any size block and with any byte as its right: plain bytes, enciphered. So there are grants for
+ * size block 0 too, as they were issued before version 0.7.
+ */
+static void lend_grant(uint32_t rounds, uint8_t contractor, uint32_t block, uint8_t right) {
+    const uint8_t plain[12] = {0, contractor, 0, 1, (uint8_t)(block >> 24), (uint8_t)(block >> 16), (uint8_t)(block >> 8),
+                               (uint8_t)block, right, 0x47, 0x52, 0x44};
     uint8_t given[12];
     lend(&input, plain, sizeof plain);
     lend_any(&out, sizeof given);
@@ -125,36 +135,50 @@ static void lend_grant(uint32_t rounds, uint8_t contractor, uint8_t right) {
     lend_any(&out, 0);
 }
 
-/* Checks a grant for a right and a size block, where its contractor may be withdrawn (2) or in another standing (3). */
-static void check_around(uint32_t rounds, uint32_t contractor, uint8_t in_grant, uint32_t block, uint32_t asked) {
-    uint32_t start = then(!is_right(asked) ? GORDZILA_RIGHT : 0, !is_right(in_grant), GORDZILA_NOT_A_GRANT);
-    start = then(start, block != 300, GORDZILA_OTHER_BLOCK);
-    start = then(start, falls_short(in_grant, asked), GORDZILA_OTHER_RIGHT);
+/* What a grant says. */
+struct granted {
+    uint8_t contractor, right;
+    uint32_t block;
+};
+
+/* Checks the grant that is lent for a right and a size block, where its contractor may be withdrawn (2) or in another standing (3). */
+static void check_around(uint32_t rounds, struct granted g, uint32_t block, uint32_t asked) {
+    uint32_t start = then(of_asked(0, asked, block), !is_right(g.right), GORDZILA_NOT_A_GRANT);
+    start = then(start, block != g.block, GORDZILA_OTHER_BLOCK);
+    start = then(start, falls_short(g.right, asked), GORDZILA_OTHER_RIGHT);
     for (unsigned count = 1; count <= 3; count++) {
         for (size_t h = 0; h < COUNT(highest_rights); h++) {
             struct entry e = {count, highest_rights[h]};
             uint32_t expected = then(start, count == 2, GORDZILA_NOT_IN_STANDING);
             expected = then(expected, count == 3, GORDZILA_OTHER_COUNT);
-            lend_entry(contractor, e, GORDZILA_ROLL_BYTES);
-            check(rounds, contractor, block, asked, then(expected, is_above(asked, e), GORDZILA_ABOVE_HIGHEST));
+            lend_entry(g.contractor, e, GORDZILA_ROLL_BYTES);
+            check(rounds, g.contractor, block, asked, then(expected, is_above(asked, e), GORDZILA_ABOVE_HIGHEST));
         }
     }
 }
 
-/* Each right in a grant, and each right asked for. */
-static void rights_asked(uint32_t rounds, uint8_t contractor) {
-    for (size_t g = 0; g < COUNT(rights_in_grants); g++) {
-        lend_grant(rounds, contractor, rights_in_grants[g]);
+/* Each size block and each right asked for, of the grant that is lent. */
+static void asked(uint32_t rounds, struct granted g) {
+    for (size_t b = 0; b < COUNT(size_blocks); b++) {
         for (size_t a = 0; a < COUNT(rights); a++) {
-            check_around(rounds, contractor, rights_in_grants[g], 300, rights[a]);
-            check_around(rounds, contractor, rights_in_grants[g], 301, rights[a]);
+            check_around(rounds, g, size_blocks[b], rights[a]);
         }
     }
 }
 
-/* Issues for a right, to a contractor who is in standing (1) or not (2). */
-static void issue_around(uint32_t rounds, uint32_t contractor, uint32_t right) {
-    uint32_t start = then(!is_contractor(contractor) ? GORDZILA_CONTRACTOR : 0, !is_right(right), GORDZILA_RIGHT);
+/* Each size block and each right in a grant. */
+static void granted(uint32_t rounds, uint8_t contractor) {
+    for (size_t b = 0; b < COUNT(size_blocks); b++) {
+        for (size_t r = 0; r < COUNT(rights_in_grants); r++) {
+            lend_grant(rounds, contractor, size_blocks[b], rights_in_grants[r]);
+            asked(rounds, (struct granted){contractor, rights_in_grants[r], size_blocks[b]});
+        }
+    }
+}
+
+/* Issues for a right and a size block, to a contractor who is in standing (1) or not (2). */
+static void issue_around(uint32_t rounds, uint32_t contractor, uint32_t right, uint32_t block) {
+    uint32_t start = of_asked(!is_contractor(contractor) ? GORDZILA_CONTRACTOR : 0, right, block);
     for (unsigned count = 1; count <= 2; count++) {
         for (size_t h = 0; h < COUNT(highest_rights); h++) {
             struct entry e = {count, highest_rights[h]};
@@ -162,20 +186,35 @@ static void issue_around(uint32_t rounds, uint32_t contractor, uint32_t right) {
             lend_entry(contractor, e, GORDZILA_ROLL_BYTES);
             lend_any(&out, 13);
             judge("issue",
-                  gordzila_issue(key.at, key.length, rounds, roll.at, roll.length, contractor, 300, right, out.at, out.length),
+                  gordzila_issue(key.at, key.length, rounds, roll.at, roll.length, contractor, block, right, out.at, out.length),
                   then(expected, is_above(right, e), GORDZILA_ABOVE_HIGHEST), &out, 12);
         }
     }
 }
 
-/* What a roll's highest rights let open and be issued. */
-static void highest(uint32_t rounds) {
+static void issues(uint32_t rounds, uint32_t contractor) {
+    for (size_t b = 0; b < COUNT(size_blocks); b++) {
+        for (size_t i = 0; i < COUNT(rights); i++) {
+            issue_around(rounds, contractor, rights[i], size_blocks[b]);
+        }
+    }
+}
+
+/* What can be opened and issued: for each size block, by the highest rights on a roll. */
+static void grants(uint32_t rounds) {
     for (size_t c = 0; c < COUNT(on_roll); c++) {
-        rights_asked(rounds, on_roll[c]);
+        granted(rounds, on_roll[c]);
     }
     for (size_t c = 0; c < COUNT(contractors); c++) {
+        issues(rounds, contractors[c]);
+    }
+}
+
+/* Rolls and outputs of several lengths, for each size block and each right. */
+static void grant_lengths(uint32_t rounds) {
+    for (size_t b = 0; b < COUNT(size_blocks); b++) {
         for (size_t i = 0; i < COUNT(rights); i++) {
-            issue_around(rounds, contractors[c], rights[i]);
+            grant(rounds, rights[i], size_blocks[b]);
         }
     }
 }
@@ -198,11 +237,9 @@ static void with_keys(void) {
         for (size_t r = 0; r < COUNT(round_counts); r++) {
             cipher(round_counts[r]);
             prepare(round_counts[r]);
-            for (size_t i = 0; i < COUNT(rights); i++) {
-                grant(round_counts[r], rights[i]);
-            }
+            grant_lengths(round_counts[r]);
             if (of_rounds(key.length, round_counts[r]) == 0) {
-                highest(round_counts[r]);
+                grants(round_counts[r]);
             }
         }
         for (size_t n = 0; n < COUNT(stages); n++) {

@@ -4,8 +4,9 @@
  * (guard.h).
  *
  * A life starts with an empty roll, and has 3 entries, 6 changes of the right, 2 withdrawals and 6 issues; 15 checks, 12 of damaged
- * grants, and 7 here of wrong lengths and of a wrong right. The 27 that the independent program has are also made in a queue. Of 48 lives,
- * 48 * (1 + 17 + 34 + 27) are 3,792. Prints how many agreed; the status is 1 where one did not.
+ * grants, and 7 here of wrong lengths and of a wrong right. The 27 that the independent program has are also made in a queue. At the end of
+ * each life there are here 4 calls for size block 0 and 4 on a grant for it. Of 48 lives, 48 * (1 + 17 + 34 + 27 + 8) are 4,176. Prints how
+ * many agreed; the status is 1 where one did not.
  */
 #include "guard.h"
 #include "rules.h"
@@ -156,6 +157,40 @@ static void short_and_long(const struct life *l) {
     expect(l, bytes, 12, GORDZILA_ROLL_BYTES, l->block, 257, GORDZILA_RIGHT);
 }
 
+/*
+ * Size block 0, as a form that was left blank asks for it: the issue to the contractor of the life, who is in standing, the check of a
+ * grant that opens its own size block, and a queue of the life's grants are refused with 14, and nothing is written. What is no right is 7
+ * all the same.
+ */
+static void blank_form(const struct life *l) {
+    lend_roll(l, GORDZILA_ROLL_BYTES);
+    lend_any(&out, 13);
+    judge("issue",
+          gordzila_issue(key.at, key.length, l->rounds, roll.at, roll.length, l->contractor, 0, l->right, out.at, out.length),
+          GORDZILA_BLOCK_ZERO, &out, 12);
+    expect(l, l->grants[B], 12, GORDZILA_ROLL_BYTES, 0, l->right, GORDZILA_BLOCK_ZERO);
+    expect(l, l->grants[B], 12, GORDZILA_ROLL_BYTES, 0, 257, GORDZILA_RIGHT);
+    lend(&grant, l->grants[A], 12 * (B - A + 1));
+    judge("queue",
+          gordzila_check_queue(key.at, key.length, l->rounds, roll.at, roll.length, grant.at, grant.length, 0, l->right, out.at,
+                               out.length),
+          GORDZILA_BLOCK_ZERO, &out, B - A + 1);
+}
+
+/* A grant for size block 0, as it was issued before version 0.7, in the standing of now: it opens nothing, alone or in a queue. */
+static void old_grant(const struct life *l) {
+    const uint8_t plain[12] = {0, (uint8_t)l->contractor, (uint8_t)(l->entry.count / 256), (uint8_t)(l->entry.count % 256), 0, 0, 0, 0,
+                               (uint8_t)l->right, 0x47, 0x52, 0x44};
+    uint8_t bytes[12];
+    lend(&grant, plain, sizeof plain);
+    lend_any(&out, sizeof bytes);
+    judge("encipher", gordzila_encipher(key.at, key.length, l->rounds, grant.at, grant.length, out.at, out.length), 0, &out, 12);
+    memcpy(bytes, out.at, sizeof bytes);
+    expect(l, bytes, 12, GORDZILA_ROLL_BYTES, 0, l->right, GORDZILA_BLOCK_ZERO);
+    expect(l, bytes, 12, GORDZILA_ROLL_BYTES, l->block, l->right, GORDZILA_OTHER_BLOCK);
+    expect_queued(l, bytes, l->block, l->right, GORDZILA_OTHER_BLOCK);
+}
+
 static void damaged(const struct life *l, unsigned at, unsigned answer) {
     uint8_t bytes[12];
     memcpy(bytes, l->grants[B], 12);
@@ -164,6 +199,8 @@ static void damaged(const struct life *l, unsigned at, unsigned answer) {
     expect_queued(l, bytes, l->block, l->right, answer);
     if (at == 11) {
         short_and_long(l);
+        blank_form(l);
+        old_grant(l);
     }
 }
 

@@ -4,15 +4,16 @@
  * to be the first reason in the header's order that holds (rules.h); and the header's readers have to say the same of it. Keys, payload
  * and page may not change. What a call writes has to be, byte for byte, what a model has that stands in this file, made from the
  * header's words over gordzila_run. Where the scratch is cleared, 576 bytes of it are zero. All other bytes of both stay. What a page
- * comes to is known from how it was put together.
+ * comes to is known from how it was put together. The model also makes pages of size block 0, as they were sealed before version 0.7.
  *
- * There are 2 * 11 * 11 pairs of keys with 13 round counts, each for the 8 sets of 3 faults of a sealing and the 128 sets of 7 faults
- * of an opening: 3,146 * 136 are 427,856. Of the 6 settings among them that are right there are 10 * 5 * 5 sealings and 7 * 5 * 5
- * openings of several lengths: 2,550. For each of 3 key lengths there are 493 payloads of every length, sealed and opened under keys
- * that are drawn; 1,024 changes of one byte, 65,536 used counts, 32 bits in the header's zeros, 984 pages with a lone byte in the
- * payload, 8 openings under other keys, and 3 calls with keys that overlap: 68,573. Of the 54 pairs of keys that differ in one byte
- * there are a sealing and an opening: 108. On both sides, 2 * (427,856 + 2,550 + 3 * 68,573 + 108) are 1,272,466 calls. Prints how many
- * did what they have to; the status is 1 where one did not.
+ * There are 2 * 11 * 11 pairs of keys with 13 round counts, each for the 16 sets of 4 faults of a sealing and the 128 sets of 7 faults
+ * of an opening, of a page of size block 300 and of one of size block 0: 3,146 * 272 are 855,712. Of the 6 settings among them that are
+ * right there are, for each of 6 size blocks, 10 * 5 * 5 sealings and 7 * 5 * 5 openings of several lengths: 15,300. For each of 3 key
+ * lengths there are 493 payloads of every length, sealed and opened under keys that are drawn; 1,024 changes of one byte, 65,536 used
+ * counts, 32 bits in the header's zeros, 984 pages with a lone byte in the payload, 8 openings under other keys, and 3 calls with keys
+ * that overlap: 68,573. Of the 54 pairs of keys that differ in one byte there are a sealing and an opening: 108. On both sides,
+ * 2 * (855,712 + 15,300 + 3 * 68,573 + 108) are 2,153,678 calls. Prints how many did what they have to; the status is 1 where one did
+ * not.
  */
 #include "guard.h"
 #include "rules.h"
@@ -24,6 +25,8 @@ static const size_t page_lengths[] = {0, 12, 504, 511, 512, 513, 1024};
 static const size_t scratch_lengths[] = {0, 575, 576, 577, 1152};
 static const size_t sealed_lengths[] = {0, 511, 512, 513, 1024};
 static const size_t opened_lengths[] = {0, 491, 492, 493, 984};
+/* Some have one byte alone that is not 0, each in another place, so that a number that is cut is found out. */
+static const uint32_t size_blocks[] = {0, 1, 256, 65536, 16777216, 0xffffffffu};
 
 /* The right settings: a key's length with its least and its most rounds. */
 struct size {
@@ -178,6 +181,7 @@ static int misleft(const uint8_t *written, size_t length, int cleared) {
 static void seal(uint32_t block, uint16_t number, size_t scratch_length, size_t out_length) {
     uint8_t page[512];
     uint32_t expected = then(of_settings(), scratch_length < 576 || out_length < 512, GORDZILA_OUTPUT_TOO_SHORT);
+    expected = then(expected, !is_size_block(block), GORDZILA_BLOCK_ZERO);
     expected = then(expected, input.length > 492, GORDZILA_PAYLOAD_TOO_LONG);
     if (expected == 0) {
         put_together(page, block, number, input.before, input.length);
@@ -228,23 +232,23 @@ static void open_page(enum outcome outcome, const uint8_t page[512], const uint8
     open_lent(outcome, payload, 576, 492);
 }
 
-/* Every set of faults of a sealing but those of the settings: in scratch, output and payload. */
+/* Every set of faults of a sealing but those of the settings: in scratch, output, payload and size block. */
 static void seal_with_faults(void) {
-    for (unsigned faults = 0; faults < 8; faults++) {
+    for (unsigned faults = 0; faults < 16; faults++) {
         lend_marked(&input, faults & 4 ? 493 : 492);
-        seal(300, 7, faults & 1 ? 575 : 576, faults & 2 ? 511 : 512);
+        seal(faults & 8 ? 0 : 300, 7, faults & 1 ? 575 : 576, faults & 2 ? 511 : 512);
     }
 }
 
 /*
  * Every set of faults of an opening but those of the settings: in scratch, output, the page's length, its count, its zeros, its check,
- * and its unused bytes. But for the fault in the check, the check is right.
+ * and its unused bytes. But for the fault in the check, the check is right. The size block is none of them, 0 neither.
  */
-static void open_with_faults(void) {
+static void open_with_faults(uint32_t block) {
     for (unsigned faults = 0; faults < 128; faults++) {
         uint8_t page[512], payload[492];
         enum outcome after = faults & 32 ? CHECK_DIFFERS : faults & 64 ? REFUSED_AFTER_CHECK : OPENS;
-        put_together(page, 300, 7, marks, 300);
+        put_together(page, block, 7, marks, 300);
         put(page + 6, 2, faults & 8 ? 493 : 300);
         page[11] = faults & 16 ? 1 : 0;
         page[503] = faults & 64 ? 1 : 0;
@@ -258,21 +262,21 @@ static void open_with_faults(void) {
     }
 }
 
-static void seal_lengths(void) {
+static void seal_lengths(uint32_t block) {
     for (size_t p = 0; p < COUNT(payload_lengths); p++) {
         lend_marked(&input, payload_lengths[p]);
         for (size_t s = 0; s < COUNT(scratch_lengths); s++) {
             for (size_t o = 0; o < COUNT(sealed_lengths); o++) {
-                seal(0xfffefdfcu, 0xfbfa, scratch_lengths[s], sealed_lengths[o]);
+                seal(block, 0xfbfa, scratch_lengths[s], sealed_lengths[o]);
             }
         }
     }
 }
 
 /* A whole page, cut or with zeros after it. */
-static void open_lengths(void) {
+static void open_lengths(uint32_t block) {
     uint8_t page[1024] = {0};
-    put_together(page, 0xfffefdfcu, 0xfbfa, marks, 492);
+    put_together(page, block, 0xfbfa, marks, 492);
     seal_in_model(page);
     for (size_t p = 0; p < COUNT(page_lengths); p++) {
         lend(&input, page, page_lengths[p]);
@@ -288,10 +292,11 @@ static void with_settings(void) {
     for (size_t r = 0; r < COUNT(round_counts); r++) {
         take_rounds(round_counts[r]);
         seal_with_faults();
-        open_with_faults();
-        if (of_settings() == 0) {
-            seal_lengths();
-            open_lengths();
+        open_with_faults(300);
+        open_with_faults(0);
+        for (size_t b = 0; b < COUNT(size_blocks) && of_settings() == 0; b++) {
+            seal_lengths(size_blocks[b]);
+            open_lengths(size_blocks[b]);
         }
     }
 }

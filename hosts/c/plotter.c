@@ -1,10 +1,11 @@
 /*
  * A plotter's day and the next morning, in small. The store enters a contractor and issues an overwriting grant; a plotter box caches it
- * and checks it against the roll as it is now: before it looks at the size block, and before it overwrites it. The contractor is demoted:
- * they may go on looking, and overwrite again with the same grant once they are raised. The contractor is withdrawn, and the cached grant
- * stops opening, also after a new standing. With a reading grant the contractor may then look, but not overwrite. Next morning the box
- * checks its pile of cached grants in one call. Once a grant opens the size block for overwriting, a page of it is sealed; once one opens
- * it for reading, the page is opened. Prints a line for each step.
+ * and checks it against the roll as it is now: before it looks at the size block, and before it overwrites it. A form that was left blank
+ * asks for size block 0: that is refused, and says nothing of the grant. The contractor is demoted: they may go on looking, and overwrite
+ * again with the same grant once they are raised. The contractor is withdrawn, and the cached grant stops opening, also after a new
+ * standing. With a reading grant the contractor may then look, but not overwrite. Next morning the box checks its pile of cached grants in
+ * one call. Once a grant opens the size block for overwriting, a page of it is sealed; once one opens it for reading, the page is opened.
+ * Prints a line for each step.
  */
 #include <stdio.h>
 #include <string.h>
@@ -33,6 +34,8 @@ static const char *reason(uint32_t number) {
         return "too much for a page";
     case GORDZILA_CHECK_DIFFERS:
         return "page changed, or sealed with another second key or round count";
+    case GORDZILA_BLOCK_ZERO:
+        return "size block number left blank";
     case GORDZILA_NOT_IN_STANDING:
         return "contractor not in standing";
     case GORDZILA_IN_STANDING:
@@ -183,6 +186,7 @@ static void day(uint8_t roll[GORDZILA_ROLL_BYTES], struct pile *pile) {
     may(GORDZILA_READING, roll, grant, 300);
     may(GORDZILA_OVERWRITING, roll, grant, 300);
     may(GORDZILA_OVERWRITING, roll, grant, 301);
+    may(GORDZILA_OVERWRITING, roll, grant, 0);
     demotion(roll, grant);
     withdraw(roll, 7);
     may(GORDZILA_READING, roll, grant, 300);

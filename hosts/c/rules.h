@@ -1,6 +1,6 @@
 /*
- * What the tests expect, by the header's words: the reasons that hold of a key, a round count, rights and a contractor, the first of
- * several, and the bytes of a roll.
+ * What the tests expect, by the header's words: the reasons that hold of a key, a round count, rights, a size block and a contractor, the
+ * first of several, and the bytes of a roll.
  */
 #ifndef RULES_H
 #define RULES_H
@@ -21,6 +21,14 @@ static inline uint32_t of_rounds(size_t key_length, uint32_t rounds) {
 }
 
 static inline int is_right(uint32_t right) { return right == GORDZILA_READING || right == GORDZILA_OVERWRITING; }
+
+/* Every number is one but 0. */
+static inline int is_size_block(uint32_t number) { return number != 0; }
+
+/* Of the right and the size block that a check, a queue or an issue is asked for, in the header's order, after an earlier reason. */
+static inline uint32_t of_asked(uint32_t earlier, uint32_t right, uint32_t block) {
+    return then(then(earlier, !is_right(right), GORDZILA_RIGHT), !is_size_block(block), GORDZILA_BLOCK_ZERO);
+}
 
 /* The one case in which a grant for the size block does not open it for the right asked for. */
 static inline int falls_short(uint32_t in_grant, uint32_t asked) {

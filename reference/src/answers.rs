@@ -1,6 +1,6 @@
 //! Worked answers to fixed questions, as plain text. Nothing is drawn from a
-//! generator: all inputs stand in this file, in `right_answers.rs` and
-//! `page_answers.rs`, and in README.md.
+//! generator: all inputs stand in this file, in `right_answers.rs`,
+//! `page_answers.rs` and `zero_answers.rs`, and in README.md.
 //!
 //! The keys are the first 12, the first 18 and all 24 bytes of KEY. The lines come
 //! in this order:
@@ -44,6 +44,7 @@
 //! - `order CALL A B GIVEN`: the number with which a call is refused for which the
 //!   reasons A and B hold, and no reason that comes before A.
 //! - the lines for sealed pages, which stand at the top of `page_answers.rs`.
+//! - the lines about size block 0, which stand at the top of `zero_answers.rs`.
 //!
 //! A and B are neighbours in the order of the reasons for a call. Some neighbours
 //! have no line:
@@ -51,8 +52,8 @@
 //! - Enter has the order 6, 7, 21, 22, but 21 and 22 do not hold together: with count
 //!   65,534 or 65,535, which is reason 22, a contractor is not in standing. So there is
 //!   a line for 7 and 22 instead, next to the one for 7 and 21.
-//! - Issue has the order 1, 2, 4, 6, 7, 20, 25, but no input for reason 4, an output that
-//!   is too short, because it returns the grant. So 6 comes next to 2.
+//! - Issue has the order 1, 2, 4, 6, 7, 14, 20, 25, but no input for reason 4, an output
+//!   that is too short, because it returns the grant. So 6 comes next to 2.
 //!
 //! The reasons 6 and 20 of withdraw do hold together: a contractor without a count
 //! is not in standing. So do the reasons 3 and 4 of a queue: 65 grants are too many,
@@ -79,11 +80,12 @@ use crate::right_answers::{
 };
 use crate::roll::{
     counts_from_bytes, counts_to_bytes, covers, in_standing, queue_length, Grant, Roll,
-    CONTRACTORS, OVERWRITING, READING,
+    CONTRACTORS, OVERWRITING, READING, ZERO_BLOCK,
 };
 use crate::routes::walk;
 use crate::schedule::{cipher_key, closing_sum, key_stage, round_subkeys, select};
 use crate::vectors::{add_constant_line, add_line, hex, list_hex, matrix_hex, KEY_LENGTHS};
+use crate::zero_answers::add_zero_answers;
 
 /// The key of 24 bytes. The others are its first 12 and its first 18.
 pub(crate) const KEY: [u8; 24] = [
@@ -171,10 +173,10 @@ const COUNTS: [u16; 7] = [0, 1, 2, 65_532, 65_533, 65_534, 65_535];
 const QUEUE_LENGTHS: [usize; 11] = [0, 1, 11, 12, 13, 24, 756, 767, 768, 769, 780];
 
 /// The counts of contractors 1, 2 and 3 in the roll of the queue that is answered.
-const QUEUE_COUNTS: [u16; 3] = [1, 2, 3];
+pub(crate) const QUEUE_COUNTS: [u16; 3] = [1, 2, 3];
 
 /// The figures of these contractors. Only contractor 1 may overwrite.
-const QUEUE_FIGURES: [u8; 3] = [2, 1, 255];
+pub(crate) const QUEUE_FIGURES: [u8; 3] = [2, 1, 255];
 
 /// The grants of this queue: the contractor, the count, the size block and the right.
 const QUEUE: [(u16, u16, u32, u8); 5] = [
@@ -198,14 +200,15 @@ const CHANGE_PAIRS: [[u8; 2]; 2] = [[6, 7], [7, 20]];
 const WITHDRAW_PAIRS: [[u8; 2]; 1] = [[6, 20]];
 
 /// The pairs of reasons for an issue.
-const ISSUE_PAIRS: [[u8; 2]; 5] = [[1, 2], [2, 6], [6, 7], [7, 20], [20, 25]];
+const ISSUE_PAIRS: [[u8; 2]; 6] = [[1, 2], [2, 6], [6, 7], [7, 14], [14, 20], [20, 25]];
 
 /// The pairs of reasons for a check.
-const CHECK_PAIRS: [[u8; 2]; 9] = [
+const CHECK_PAIRS: [[u8; 2]; 10] = [
     [1, 2],
     [2, 3],
     [3, 7],
-    [7, 8],
+    [7, 14],
+    [14, 8],
     [8, 9],
     [9, 10],
     [10, 20],
@@ -214,17 +217,17 @@ const CHECK_PAIRS: [[u8; 2]; 9] = [
 ];
 
 /// The pairs of reasons for a queue.
-const QUEUE_PAIRS: [[u8; 2]; 4] = [[1, 2], [2, 3], [3, 4], [4, 7]];
+const QUEUE_PAIRS: [[u8; 2]; 5] = [[1, 2], [2, 3], [3, 4], [4, 7], [7, 14]];
 
 /// The contractor of a call in which nothing is wrong.
-const CONTRACTOR: u16 = 7;
+pub(crate) const CONTRACTOR: u16 = 7;
 
 /// The number of the size block of a call in which nothing is wrong.
 pub(crate) const SIZE_BLOCK: u32 = 300;
 
 /// Everyone's count in the roll of a call in which nothing is wrong. Entering has one
 /// less, so that nobody is in standing.
-const COUNT: u16 = 3;
+pub(crate) const COUNT: u16 = 3;
 
 /// All worked answers.
 pub fn answers_text() -> Result<String, Error> {
@@ -257,6 +260,7 @@ pub fn answers_text() -> Result<String, Error> {
     add_queue_lines(&mut text);
     add_roll_order_lines(&mut text);
     add_page_answers(&mut text);
+    add_zero_answers(&mut text);
     Ok(text)
 }
 
@@ -291,7 +295,7 @@ fn add_roll_lines(text: &mut String) {
 }
 
 /// Numbers in decimal, with the same text between each two.
-fn decimals<T: ToString>(numbers: &[T], between: &str) -> String {
+pub(crate) fn decimals<T: ToString>(numbers: &[T], between: &str) -> String {
     let fields: Vec<String> = numbers.iter().map(T::to_string).collect();
     fields.join(between)
 }
@@ -388,22 +392,34 @@ fn add_judged_lines(text: &mut String) {
             block: SIZE_BLOCK,
             right: granted,
         };
-        let plain = grant.plain_bytes();
-        let roll = roll_with_entry(CONTRACTOR, count, figure);
-        let checked = roll.check(&KEY[..SHORT], ROUNDS, &enciphered(&plain), block, asked);
-        add_line(
-            text,
-            &[
-                "judged",
-                &hex(&plain),
-                &count.to_string(),
-                &figure.to_string(),
-                &block.to_string(),
-                &asked.to_string(),
-                &answer_of(&checked),
-            ],
-        );
+        add_judgement_line(text, "judged", &grant, (count, figure), (block, asked));
     }
+}
+
+/// The line of a name for a check of a grant, asked for a size block and a right, where
+/// the roll has a count and a figure for the contractor in the grant.
+pub(crate) fn add_judgement_line(
+    text: &mut String,
+    name: &str,
+    grant: &Grant,
+    (count, figure): (u16, u8),
+    (block, asked): (u32, u8),
+) {
+    let plain = grant.plain_bytes();
+    let roll = roll_with_entry(grant.contractor, count, figure);
+    let checked = roll.check(&KEY[..SHORT], ROUNDS, &enciphered(&plain), block, asked);
+    add_line(
+        text,
+        &[
+            name,
+            &hex(&plain),
+            &count.to_string(),
+            &figure.to_string(),
+            &block.to_string(),
+            &asked.to_string(),
+            &answer_of(&checked),
+        ],
+    );
 }
 
 /// Plain bytes enciphered under the short key.
@@ -574,11 +590,7 @@ fn queued_grants() -> Vec<u8> {
 
 /// The answers for the grants of the queue.
 fn queue_answers(grants: &[u8], right: u8) -> [u8; QUEUE.len()] {
-    let mut counts = [0; CONTRACTORS];
-    counts[..QUEUE_COUNTS.len()].copy_from_slice(&QUEUE_COUNTS);
-    let mut figures = [READING; CONTRACTORS];
-    figures[..QUEUE_FIGURES.len()].copy_from_slice(&QUEUE_FIGURES);
-    let roll = Roll::with_entries(counts, figures);
+    let roll = queue_roll();
     let mut answers = [UNWRITTEN; QUEUE.len()];
     let key = &KEY[..SHORT];
     let called = roll.check_queue(key, ROUNDS, grants, SIZE_BLOCK, right, &mut answers);
@@ -586,17 +598,36 @@ fn queue_answers(grants: &[u8], right: u8) -> [u8; QUEUE.len()] {
     answers
 }
 
-/// The lines for the pairs of reasons for one call. `call_with` makes the call with
-/// an input for which the given reasons hold.
+/// The roll of the queue: three entries, and those of an empty roll after them.
+pub(crate) fn queue_roll() -> Roll {
+    let mut counts = [0; CONTRACTORS];
+    counts[..QUEUE_COUNTS.len()].copy_from_slice(&QUEUE_COUNTS);
+    let mut figures = [READING; CONTRACTORS];
+    figures[..QUEUE_FIGURES.len()].copy_from_slice(&QUEUE_FIGURES);
+    Roll::with_entries(counts, figures)
+}
+
+/// The lines `order` for the pairs of reasons for one call. `call_with` makes the call
+/// with an input for which the given reasons hold.
 pub(crate) fn add_order_lines(
     text: &mut String,
     call: &str,
     pairs: &[[u8; 2]],
     call_with: fn(&[u8]) -> String,
 ) {
+    add_reason_lines(text, ["order", call], pairs, call_with);
+}
+
+/// The lines of a name for the pairs of reasons for one call.
+pub(crate) fn add_reason_lines(
+    text: &mut String,
+    [name, call]: [&str; 2],
+    pairs: &[[u8; 2]],
+    call_with: fn(&[u8]) -> String,
+) {
     for pair in pairs {
         let [a, b] = pair.map(|reason| reason.to_string());
-        add_line(text, &["order", call, &a, &b, &call_with(pair)]);
+        add_line(text, &[name, call, &a, &b, &call_with(pair)]);
     }
 }
 
@@ -626,44 +657,44 @@ pub fn withdraw_with(reasons: &[u8]) -> String {
     number_of(&roll.withdraw(contractor_with(reasons)))
 }
 
-/// The number of an issue for which the given reasons hold, of 1, 2, 6, 7, 20 and 25.
+/// The number of an issue for which the given reasons hold, of 1, 2, 6, 7, 14, 20 and
+/// 25.
 pub fn issue_with(reasons: &[u8]) -> String {
     let (key, rounds) = key_and_rounds_with(reasons);
     let contractor = contractor_with(reasons);
+    let block = block_with(reasons);
     let right = right_with(reasons);
-    number_of(&roll_with(reasons).issue(key, rounds, contractor, SIZE_BLOCK, right))
+    number_of(&roll_with(reasons).issue(key, rounds, contractor, block, right))
 }
 
-/// The number of a check for which the given reasons hold, of 1, 2, 3, 7, 8, 9, 10,
-/// 20, 23 and 25. For reason 9 it is asked for the next size block.
+/// The number of a check for which the given reasons hold, of 1, 2, 3, 7, 14, 8, 9, 10,
+/// 20, 23 and 25.
 pub fn check_with(reasons: &[u8]) -> String {
     let (key, rounds) = key_and_rounds_with(reasons);
     let grant = grant_with(reasons);
-    let block = if reasons.contains(&9) {
-        SIZE_BLOCK + 1
-    } else {
-        SIZE_BLOCK
-    };
+    let block = block_with(reasons);
     let right = right_with(reasons);
     number_of(&roll_with(reasons).check(key, rounds, &grant, block, right))
 }
 
-/// The number of a queue for which the given reasons hold, of 1, 2, 3, 4 and 7. It has
-/// 64 grants, and for reason 3 one more. One byte is lent for each, and for reason 4
-/// one byte less in all. Nothing is wrong with the grants themselves.
+/// The number of a queue for which the given reasons hold, of 1, 2, 3, 4, 7 and 14. It
+/// has 64 grants, and for reason 3 one more. One byte is lent for each, and for reason 4
+/// one byte less in all. The reasons 8, 9, 10, 20, 23 and 25 hold for every one of the
+/// grants, and do not refuse the queue.
 pub fn queue_with(reasons: &[u8]) -> String {
     let (key, rounds) = key_and_rounds_with(reasons);
+    let of_grants: Vec<u8> = reasons.iter().copied().filter(|r| *r != 3).collect();
     let count = if reasons.contains(&3) { 65 } else { 64 };
     let lent = if reasons.contains(&4) {
         count - 1
     } else {
         count
     };
-    let grants = grant_with(&[]).repeat(count);
+    let grants = grant_with(&of_grants).repeat(count);
     let mut answers = vec![UNWRITTEN; lent];
-    let right = right_with(reasons);
+    let (block, right) = (block_with(reasons), right_with(reasons));
     let roll = roll_with(reasons);
-    number_of(&roll.check_queue(key, rounds, &grants, SIZE_BLOCK, right, &mut answers))
+    number_of(&roll.check_queue(key, rounds, &grants, block, right, &mut answers))
 }
 
 /// The key and the number of rounds of a call. For reason 1 the key has 11 bytes.
@@ -687,6 +718,29 @@ fn contractor_with(reasons: &[u8]) -> u16 {
     }
 }
 
+/// The size block that is asked for: for reason 14 it is 0, and for reason 9 alone the
+/// one after that of the grant.
+fn block_with(reasons: &[u8]) -> u32 {
+    if reasons.contains(&14) {
+        ZERO_BLOCK
+    } else if reasons.contains(&9) {
+        SIZE_BLOCK + 1
+    } else {
+        SIZE_BLOCK
+    }
+}
+
+/// The size block in the grant of a check. For reason 14 it is 0 too, as in a grant that
+/// was issued before there was this reason, so that reason 9 does not hold as well; but
+/// if it is wanted, the grant is for another.
+fn block_in_grant_with(reasons: &[u8]) -> u32 {
+    if reasons.contains(&14) && !reasons.contains(&9) {
+        ZERO_BLOCK
+    } else {
+        SIZE_BLOCK
+    }
+}
+
 /// The right that is asked for or given: overwriting, and for reason 7 none.
 fn right_with(reasons: &[u8]) -> u8 {
     if reasons.contains(&7) {
@@ -707,7 +761,7 @@ fn granted_with(reasons: &[u8]) -> u8 {
 
 /// The roll of a call, in which everyone has the same count and the same figure. For
 /// reason 20 nobody is in standing, and for reason 25 nobody may more than read.
-fn roll_with(reasons: &[u8]) -> Roll {
+pub(crate) fn roll_with(reasons: &[u8]) -> Roll {
     let figure = if reasons.contains(&25) {
         READING
     } else {
@@ -736,7 +790,7 @@ fn grant_with(reasons: &[u8]) -> Vec<u8> {
         } else {
             count_with(reasons)
         },
-        block: SIZE_BLOCK,
+        block: block_in_grant_with(reasons),
         right: granted_with(reasons),
     };
     let mut plain = grant.plain_bytes();

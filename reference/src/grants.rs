@@ -5,7 +5,8 @@
 //! 18, 24 in this order, for each its round counts upward (10..11, 14..17,
 //! 18..23), and for each of these does this 4 times: draw KEY (12, 18 or 24
 //! bytes), draw a byte x, draw BLOCK (4 bytes, big end first), draw a byte y, print
-//! a life. The contractor is 1 + x mod 200, and the right is 1 + y mod 2.
+//! a life. The contractor is 1 + x mod 200, and the right is 1 + y mod 2. No BLOCK that is
+//! drawn is 0, nor is the next one after any; the calls for 0 are in `zero.rs`.
 //!
 //! A life is a fixed list of calls on a new roll, all for this contractor, with one
 //! line for each. Where nothing else is said, an entering, an issue and a check have the

@@ -25,3 +25,5 @@ pub mod routes;
 pub mod sbox;
 pub mod schedule;
 pub mod vectors;
+pub mod zero;
+pub mod zero_answers;

@@ -1,7 +1,8 @@
 //! Prints vectors of the reference implementation as plain text on standard
 //! output. What each subcommand prints, and the order in which it draws its
-//! inputs, stands at the top of `vectors.rs`, `routes.rs`, `grants.rs`,
-//! `answers.rs`, `right_answers.rs` and `page_answers.rs` and in README.md.
+//! inputs, stands at the top of `vectors.rs`, `routes.rs`, `grants.rs`, `zero.rs`,
+//! `answers.rs`, `right_answers.rs`, `page_answers.rs` and `zero_answers.rs` and in
+//! README.md.
 
 #![forbid(unsafe_code)]
 
@@ -10,10 +11,10 @@ use std::io::{self, Write};
 use std::process::ExitCode;
 
 use curupira_reference::error::Error;
-use curupira_reference::{answers, grants, routes, vectors};
+use curupira_reference::{answers, grants, routes, vectors, zero};
 
 const USAGE: &str =
-    "usage: reference sbox|layers|rounds|blocks|stages|constants|routes|grants|pages|answers";
+    "usage: reference sbox|layers|rounds|blocks|stages|constants|routes|grants|pages|zero|answers";
 
 /// Exit status for bad usage.
 const BAD_USAGE: u8 = 2;
@@ -46,6 +47,7 @@ fn subcommand(arguments: &[OsString]) -> Option<fn() -> Result<String, Error>> {
             "routes" => Some(routes::routes_text),
             "grants" => Some(grants::grants_text),
             "pages" => Some(vectors::pages_text),
+            "zero" => Some(zero::zero_text),
             "answers" => Some(answers::answers_text),
             _ => None,
         },

@@ -39,6 +39,7 @@ use crate::pages::{
     chain, keys_allowed, open, opened_with, page_under, page_with, plain_bytes, seal, Header,
     Refusal, CHECKED_LENGTH, HEADER_LENGTH, PAGE_LENGTH, PAYLOAD_LENGTH, SCRATCH_LENGTH,
 };
+use crate::roll::ZERO_BLOCK;
 use crate::schedule::round_subkeys;
 use crate::vectors::{add_line, hex, list_hex};
 
@@ -154,16 +155,16 @@ const PADDED: [(u16, usize, u8); 19] = [
 ];
 
 /// The pairs of reasons for sealing.
-const SEAL_PAIRS: [[u8; 2]; 3] = [[1, 2], [2, 4], [4, 12]];
+const SEAL_PAIRS: [[u8; 2]; 4] = [[1, 2], [2, 4], [4, 14], [14, 12]];
 
 /// The pairs of reasons for opening. The 11 after 13 is the one that is tried after it.
 const OPEN_PAIRS: [[u8; 2]; 5] = [[1, 2], [2, 4], [4, 11], [11, 13], [13, 11]];
 
 /// The page number of a call in which nothing is wrong.
-const PAGE_NUMBER: u16 = 7;
+pub(crate) const PAGE_NUMBER: u16 = 7;
 
 /// The number of payload bytes in a call in which nothing is wrong.
-const USED: u16 = 17;
+pub(crate) const USED: u16 = 17;
 
 /// The number of a call that is not refused.
 const DONE: u8 = 0;
@@ -236,7 +237,7 @@ fn key_pairs() -> Vec<[Vec<u8>; 2]> {
 }
 
 /// The short key with its last byte changed. It is the second key of calls.
-fn other_key() -> Vec<u8> {
+pub(crate) fn other_key() -> Vec<u8> {
     with_byte(&KEY[..SHORT], SHORT - 1, 0xB5)
 }
 
@@ -300,7 +301,7 @@ fn toy_answer(page: &[u8]) -> String {
 
 /// The field for the number of a call: 0, or the number of the reason for which it is
 /// refused.
-fn number_of<T>(called: &Result<T, Refusal>) -> String {
+pub(crate) fn number_of<T>(called: &Result<T, Refusal>) -> String {
     match called {
         Ok(_) => DONE.to_string(),
         Err(refusal) => refusal.number().to_string(),
@@ -309,12 +310,12 @@ fn number_of<T>(called: &Result<T, Refusal>) -> String {
 
 /// The header and the payload of a page with this header. Byte i of the payload is
 /// (7i + 1) mod 256 if it is used.
-fn plain_with(header: &Header) -> [u8; CHECKED_LENGTH] {
+pub(crate) fn plain_with(header: &Header) -> [u8; CHECKED_LENGTH] {
     plain_bytes(header, &payload_bytes(usize::from(header.used)))
 }
 
 /// The given number of payload bytes.
-fn payload_bytes(count: usize) -> Vec<u8> {
+pub(crate) fn payload_bytes(count: usize) -> Vec<u8> {
     (0..count).map(|i| ((7 * i + 1) % 256) as u8).collect()
 }
 
@@ -383,9 +384,20 @@ fn add_padded_lines(text: &mut String) {
     }
 }
 
-/// The number of a sealing for which the given reasons hold, of 1, 2, 4 and 12. For
-/// reason 12 the payload has 493 bytes.
+/// The number of a sealing for which the given reasons hold, of 1, 2, 4, 14 and 12. For
+/// reason 14 it is for size block 0, and for reason 12 the payload has 493 bytes.
 pub fn seal_with(reasons: &[u8]) -> String {
+    let size_block = if reasons.contains(&14) {
+        ZERO_BLOCK
+    } else {
+        SIZE_BLOCK
+    };
+    seal_for(size_block, reasons)
+}
+
+/// The number of a sealing for a size block for which the given reasons hold, of 1, 2, 4
+/// and 12.
+pub(crate) fn seal_for(size_block: u32, reasons: &[u8]) -> String {
     let (second, rounds) = second_key_and_rounds_with(reasons);
     let used = if reasons.contains(&12) {
         PAYLOAD_LENGTH + 1
@@ -398,7 +410,7 @@ pub fn seal_with(reasons: &[u8]) -> String {
         &KEY[..SHORT],
         &second,
         rounds,
-        SIZE_BLOCK,
+        size_block,
         PAGE_NUMBER,
         &payload_bytes(used),
         &mut scratch,

@@ -19,13 +19,17 @@
 //! several reasons that hold, the first in this order is given.
 //!
 //! - seal: makes the page of a size block, a page number and a payload of 0 to 492
-//!   bytes; 1, 2, 4, 12.
+//!   bytes; 1, 2, 4, 14, 12.
 //! - open: gives the payload, all 492 bytes of it, and the numbers in the header; 1, 2,
 //!   4, 11, 13, 11.
 //!
 //! Reason 11 is tried twice. What the page shows as it is stored comes before the
 //! check. Whether the unused bytes of the payload are zero shows only after it was
 //! deciphered, and comes after the check.
+//!
+//! No page is sealed for size block 0, which is reason 14. Pages were sealed for it before
+//! there was this reason, and these still open: opening does not look at the number of the
+//! size block, but only answers with it. `old_zero_page` makes such a page.
 //!
 //! The caller lends a scratch of at least 576 bytes, which is room for two lists of 24
 //! subkeys. Its first 576 bytes are zero after a call that is not refused, after reason
@@ -36,6 +40,7 @@
 
 use crate::cipher::{allowed_rounds, decrypt_with, encrypt_with};
 use crate::matrix::{Matrix, State};
+use crate::roll::{may_be_asked_for, ZERO_BLOCK};
 use crate::schedule::round_subkeys;
 
 /// The number of bytes in a page.
@@ -78,6 +83,8 @@ pub enum Refusal {
     LongPayload = 12,
     /// The check in the page is not the one that its other bytes have.
     OtherCheck = 13,
+    /// A page is to be sealed for size block 0.
+    ZeroBlock = 14,
 }
 
 impl Refusal {
@@ -263,6 +270,15 @@ fn check_lent(scratch: &[u8], out: &[u8], written: usize) -> Result<(), Refusal>
     }
 }
 
+/// Refuses a payload that is too long for a page.
+fn check_payload(payload: &[u8]) -> Result<(), Refusal> {
+    if payload.len() > PAYLOAD_LENGTH {
+        Err(Refusal::LongPayload)
+    } else {
+        Ok(())
+    }
+}
+
 /// The subkeys of a key for a number of rounds. Both are known to be allowed.
 fn list_of(key: &[u8], rounds: usize) -> Vec<State> {
     round_subkeys(key, rounds).expect("the key has an allowed length")
@@ -305,6 +321,26 @@ pub fn plain_bytes(header: &Header, payload: &[u8]) -> [u8; CHECKED_LENGTH] {
     plain
 }
 
+/// An old page for size block 0: one that was sealed before 14 was a reason, and is stored
+/// still. `seal` makes none any more. It is refused for 1, 2 and 12, as it was then.
+pub fn old_zero_page(
+    first_key: &[u8],
+    second_key: &[u8],
+    rounds: usize,
+    page_number: u16,
+    payload: &[u8],
+) -> Result<Vec<u8>, Refusal> {
+    check_keys_and_rounds(first_key, second_key, rounds)?;
+    check_payload(payload)?;
+    let header = Header {
+        size_block: ZERO_BLOCK,
+        page_number,
+        used: payload.len() as u16,
+    };
+    let plain = plain_bytes(&header, payload);
+    page_under(first_key, second_key, rounds, &plain)
+}
+
 /// Seals a payload: writes its page to the first 512 bytes of the output. The used count
 /// is the length of the payload. The scratch and all reasons for which this is refused
 /// are told of above.
@@ -322,9 +358,10 @@ pub fn seal(
 ) -> Result<(), Refusal> {
     check_keys_and_rounds(first_key, second_key, rounds)?;
     check_lent(scratch, out, PAGE_LENGTH)?;
-    if payload.len() > PAYLOAD_LENGTH {
-        return Err(Refusal::LongPayload);
+    if !may_be_asked_for(size_block) {
+        return Err(Refusal::ZeroBlock);
     }
+    check_payload(payload)?;
     let header = Header {
         size_block,
         page_number,

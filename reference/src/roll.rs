@@ -13,16 +13,22 @@
 //!   7, 21, 22.
 //! - change of right: stores the right given as the figure; 6, 7, 20.
 //! - withdraw: adds 1 to a contractor's count and stores 1 as the figure; 6, 20.
-//! - issue: answers a grant with the contractor's count; 1, 2, 4, 6, 7, 20, 25.
+//! - issue: answers a grant with the contractor's count; 1, 2, 4, 6, 7, 14, 20, 25.
 //! - check: answers the contractor in a grant and the right asked for, asked for one
-//!   size block and one right; 1, 2, 3, 7, 8, 9, 10, 20, 23, 25.
+//!   size block and one right; 1, 2, 3, 7, 14, 8, 9, 10, 20, 23, 25.
 //! - queue: writes an answer for each of 0 to 64 grants, all asked for one size block
-//!   and one right; 1, 2, 3, 4, 7.
+//!   and one right; 1, 2, 3, 4, 7, 14.
 //!
 //! An overwriting grant opens its size block for reading too. A reading grant does
 //! not overwrite; to ask that of it is reason 10. Reason 25 compares the right asked
 //! for, not the one in the grant, with the contractor's highest right now. So an
 //! overwriting grant of a contractor who may only read still opens for reading.
+//!
+//! Nobody may ask for size block 0, which is reason 14. It looks at the number asked for
+//! and at nothing else, so that it is tried before a grant is deciphered. Grants were
+//! issued for 0 before there was this reason. They are not rewritten, and their plain
+//! bytes are those of a whole grant still; but they open nothing: asked for 0 it is 14,
+//! and asked for any other size block it is 9. `old_zero_grant` makes such a grant.
 //!
 //! A grant is one block of 12 bytes: the plain bytes, enciphered under the key and
 //! the number of rounds. Number 4, for an output that is too short, does not occur in
@@ -31,8 +37,9 @@
 //! A queue is its grants one after the other, 12 bytes each and at most 768 in all.
 //! Any other length is reason 3. The caller lends at least one byte for each grant;
 //! fewer are reason 4. The answer for a grant is 0 if it opens, and otherwise the
-//! number with which a check of this grant alone is refused. Lent bytes past the
-//! answers stay.
+//! number with which a check of this grant alone is refused. No answer is 14: the size
+//! block is the same for all grants, so that the whole call is refused for it. Lent bytes
+//! past the answers stay.
 //!
 //! A roll in bytes is the counts of the contractors in order, that of contractor 1
 //! first, two bytes each, big end first, and then the figures in the same order, one
@@ -67,6 +74,9 @@ const OPENS: u8 = 0;
 /// The last bytes of every plain grant.
 const MARK: [u8; 3] = [0x47, 0x52, 0x44];
 
+/// The number of the size block that nobody may ask for.
+pub const ZERO_BLOCK: u32 = 0;
+
 /// The least count at which nobody is entered any more.
 const FULL: u16 = 65_534;
 
@@ -92,6 +102,8 @@ pub enum Refusal {
     OtherBlock = 9,
     /// Overwriting is asked of a reading grant.
     ReadingOnly = 10,
+    /// Size block 0 is asked for.
+    ZeroBlock = 14,
     /// The contractor is not in standing.
     NotInStanding = 20,
     /// The contractor to be entered is in standing.
@@ -139,7 +151,7 @@ impl Grant {
 
     /// What deciphered bytes say. They are no grant if they are not 12, or if the
     /// mark, the contractor or the right is wrong. Any count and any size block
-    /// will do.
+    /// will do, also size block 0, for which grants were issued once.
     pub fn from_plain_bytes(bytes: &[u8]) -> Result<Self, Refusal> {
         let grant = match *bytes {
             [a, b, c, d, e, f, g, h, right, x, y, z] if [x, y, z] == MARK => Grant {
@@ -156,6 +168,33 @@ impl Grant {
             Err(Refusal::NoGrant)
         }
     }
+
+    /// The plain bytes, enciphered. It is refused for 1 and 2 only: the grant may be any,
+    /// also one that is never issued.
+    pub fn enciphered(&self, key: &[u8], rounds: usize) -> Result<Vec<u8>, Refusal> {
+        check_key_and_rounds(key, rounds)?;
+        let enciphered = encrypt(key, rounds, &self.plain_bytes());
+        Ok(enciphered.expect("the key, the rounds and the block are allowed"))
+    }
+}
+
+/// An old grant for size block 0: one that was issued before 14 was a reason, to a
+/// contractor who had this count then, and is in a cache still. `Roll::issue` makes none
+/// any more. It is refused for 1 and 2 only, because nothing else is known of that time.
+pub fn old_zero_grant(
+    key: &[u8],
+    rounds: usize,
+    contractor: u16,
+    count: u16,
+    right: u8,
+) -> Result<Vec<u8>, Refusal> {
+    let grant = Grant {
+        contractor,
+        count,
+        block: ZERO_BLOCK,
+        right,
+    };
+    grant.enciphered(key, rounds)
 }
 
 /// What an accepted check answers.
@@ -253,8 +292,8 @@ impl Roll {
         Ok(())
     }
 
-    /// A grant of a right on a size block for a contractor in standing whose highest
-    /// right is not below it, with the contractor's count now, enciphered.
+    /// A grant of a right on a size block other than 0 for a contractor in standing whose
+    /// highest right is not below it, with the contractor's count now, enciphered.
     pub fn issue(
         &self,
         key: &[u8],
@@ -266,6 +305,7 @@ impl Roll {
         check_key_and_rounds(key, rounds)?;
         let count = self.count(contractor)?;
         check_right(right)?;
+        check_block(block)?;
         check_standing(count)?;
         check_highest(self.figure(contractor)?, right)?;
         let grant = Grant {
@@ -274,8 +314,7 @@ impl Roll {
             block,
             right,
         };
-        let enciphered = encrypt(key, rounds, &grant.plain_bytes());
-        Ok(enciphered.expect("the key, the rounds and the block are allowed"))
+        grant.enciphered(key, rounds)
     }
 
     /// Whether an enciphered grant may be used for the right asked for on the size
@@ -293,6 +332,7 @@ impl Roll {
             return Err(Refusal::GrantLength);
         }
         check_right(right)?;
+        check_block(block)?;
         let plain = decrypt(key, rounds, enciphered);
         let plain = plain.expect("the key, the rounds and the block are allowed");
         let grant = Grant::from_plain_bytes(&plain)?;
@@ -320,6 +360,7 @@ impl Roll {
             return Err(Refusal::ShortAnswers);
         }
         check_right(right)?;
+        check_block(block)?;
         for (grant, answer) in grants.chunks(GRANT_LENGTH).zip(answers) {
             *answer = match self.check(key, rounds, grant, block, right) {
                 Ok(_) => OPENS,
@@ -455,6 +496,20 @@ fn check_right(right: u8) -> Result<(), Refusal> {
         Ok(())
     } else {
         Err(Refusal::NoSuchRight)
+    }
+}
+
+/// Whether a size block may be asked for: any but 0.
+pub fn may_be_asked_for(block: u32) -> bool {
+    block != ZERO_BLOCK
+}
+
+/// Refuses a size block that may not be asked for.
+fn check_block(block: u32) -> Result<(), Refusal> {
+    if may_be_asked_for(block) {
+        Ok(())
+    } else {
+        Err(Refusal::ZeroBlock)
     }
 }
 

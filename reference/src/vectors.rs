@@ -1,6 +1,7 @@
 //! The vectors that the program prints, as plain text; those of `routes` are in
-//! `routes.rs`, those of `grants` in `grants.rs`, and those of `answers` in
-//! `answers.rs`, `right_answers.rs` and `page_answers.rs`.
+//! `routes.rs`, those of `grants` in `grants.rs`, those of `zero` in `zero.rs`, and
+//! those of `answers` in `answers.rs`, `right_answers.rs`, `page_answers.rs` and
+//! `zero_answers.rs`.
 //!
 //! Every subcommand has a generator of its own that starts from seed 1 and
 //! draws bytes for inputs only, in the order in which they are first printed. A
@@ -31,7 +32,8 @@
 //!   FIRST and then SECOND (12, 18 or 24 bytes each), draw BLOCK (4 bytes, big end
 //!   first), draw NUMBER (2 bytes, big end first), draw two bytes x and y, draw as
 //!   many bytes as USED, which is (256x + y) mod 493, for the payload, print the
-//!   line page. The payload is not printed.
+//!   line page. The payload is not printed. No BLOCK that is drawn is 0, for which no
+//!   page is sealed.
 
 use crate::cipher::{
     allowed_rounds, decrypt, decrypt_with, decryption_keys, encrypt, encrypt_with,
@@ -325,7 +327,7 @@ fn add_page_line(text: &mut String, generator: &mut Generator, key_length: usize
         &mut scratch,
         &mut page,
     )
-    .expect("the keys differ, and all else is allowed");
+    .expect("the keys differ, the size block is not 0, and all else is allowed");
     add_line(
         text,
         &[

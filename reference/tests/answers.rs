@@ -3,6 +3,8 @@
 //! 3.7, subkeys from the published S-box, and the turned list has to decipher. Pages
 //! with toys are taken from a closed form too.
 
+use std::sync::Mutex;
+
 use curupira_reference::answers::{
     answers_text, change_with, check_with, enter_with, issue_with, queue_with, withdraw_with,
 };
@@ -12,9 +14,9 @@ use curupira_reference::holder::{back, forward, make, subkey, walk_to};
 use curupira_reference::layers::inverse_theta;
 use curupira_reference::matrix::{Matrix, State};
 use curupira_reference::page_answers::{open_with, seal_with};
-use curupira_reference::pages::{open, page_under, seal};
+use curupira_reference::pages::{old_zero_page, open, page_under, seal};
 use curupira_reference::roll::{
-    counts_from_bytes, counts_to_bytes, in_standing, Grant, Refusal, Roll,
+    counts_from_bytes, counts_to_bytes, in_standing, old_zero_grant, Grant, Refusal, Roll,
 };
 use curupira_reference::schedule::{accumulated_constant, cipher_key, omega, omega_power};
 use curupira_reference::vectors::{constants_text, hex};
@@ -38,9 +40,19 @@ const QUEUE: [(&str, [&str; 2]); 5] = [
     ("000300030000012c02475244", ["25", "0"]),
 ];
 
+/// The text of the answers. It is made once for all tests, because that takes long.
+static TEXT: Mutex<Option<String>> = Mutex::new(None);
+
+/// The text of the answers.
+fn text_of_answers() -> String {
+    let mut made = TEXT.lock().expect("the text could be made");
+    let make = || answers_text().expect("all keys have allowed lengths");
+    made.get_or_insert_with(make).clone()
+}
+
 /// The lines of a name, as they are printed.
 fn lines_of(name: &str) -> Vec<String> {
-    let text = answers_text().expect("all keys have allowed lengths");
+    let text = text_of_answers();
     let start = format!("{} ", name);
     text.lines()
         .filter(|line| line.starts_with(&start))
@@ -87,7 +99,7 @@ fn states(digits: &str) -> Vec<State> {
 }
 
 /// The names of the lines in their order, with how many there are of each.
-const GROUPS: [(&str, usize); 32] = [
+const GROUPS: [(&str, usize); 37] = [
     ("limits", 3),
     ("roll", 1),
     ("rollbytes", 1),
@@ -112,32 +124,39 @@ const GROUPS: [(&str, usize); 32] = [
     ("changed", 25),
     ("queued", 11),
     ("queue", 2),
-    ("order", 24),
+    ("order", 27),
     ("chain", 1),
     ("pair", 9),
     ("form", 16),
     ("pagewith", 5),
     ("altered", 14),
     ("padded", 19),
-    ("order", 8),
+    ("order", 9),
+    ("sized", 30),
+    ("both", 31),
+    ("oldgrant", 23),
+    ("oldqueue", 9),
+    ("oldpage", 6),
 ];
 
 #[test]
 fn the_lines_stand_in_the_documented_order() {
-    let text = answers_text().expect("all keys have allowed lengths");
+    let text = text_of_answers();
     assert!(text.ends_with('\n'));
     let names = text.lines().map(|line| line.split(' ').next());
     let documented = GROUPS
         .iter()
         .flat_map(|(name, count)| vec![Some(*name); *count]);
     assert!(names.eq(documented));
-    assert_eq!(text.lines().count(), 280);
+    assert_eq!(text.lines().count(), 383);
+    let readme = include_str!("../README.md");
+    assert!(readme.contains("There are 383 lines in all."));
 }
 
 /// The lines that README.md prints.
 #[test]
 fn the_answers_start_as_documented() {
-    let text = answers_text().expect("all keys have allowed lengths");
+    let text = text_of_answers();
     let first: Vec<&str> = text.lines().take(16).collect();
     let documented = [
         "limits 12 10 11",
@@ -577,7 +596,7 @@ fn what_is_not_above_the_highest_shows_in_an_issue() {
     for line in fields_of("highest") {
         let [figure, asked] = [1, 2].map(|k| number(&line[k]) as u8);
         let roll = Roll::with_entries([1; 200], [figure; 200]);
-        let issued = roll.issue(&key, 23, 200, 0, asked).map(|_| ());
+        let issued = roll.issue(&key, 23, 200, 1, asked).map(|_| ());
         let said = match line[3].as_str() {
             "1" => Ok(()),
             _ => Err(Refusal::AboveHighest),
@@ -1045,43 +1064,49 @@ fn the_answers_of_the_queue_are_the_same_under_another_key() {
     }
 }
 
+/// The lines `order`: the call, the two reasons, and the one that is given.
+const ORDERS: [&str; 36] = [
+    "order enter 6 7 6",
+    "order enter 7 21 7",
+    "order enter 7 22 7",
+    "order right 6 7 6",
+    "order right 7 20 7",
+    "order withdraw 6 20 6",
+    "order issue 1 2 1",
+    "order issue 2 6 2",
+    "order issue 6 7 6",
+    "order issue 7 14 7",
+    "order issue 14 20 14",
+    "order issue 20 25 20",
+    "order check 1 2 1",
+    "order check 2 3 2",
+    "order check 3 7 3",
+    "order check 7 14 7",
+    "order check 14 8 14",
+    "order check 8 9 8",
+    "order check 9 10 9",
+    "order check 10 20 10",
+    "order check 20 23 20",
+    "order check 23 25 23",
+    "order queue 1 2 1",
+    "order queue 2 3 2",
+    "order queue 3 4 3",
+    "order queue 4 7 4",
+    "order queue 7 14 7",
+    "order seal 1 2 1",
+    "order seal 2 4 2",
+    "order seal 4 14 4",
+    "order seal 14 12 14",
+    "order open 1 2 1",
+    "order open 2 4 2",
+    "order open 4 11 4",
+    "order open 11 13 11",
+    "order open 13 11 13",
+];
+
 #[test]
 fn the_orders_are_as_written_by_hand() {
-    let written = [
-        "order enter 6 7 6",
-        "order enter 7 21 7",
-        "order enter 7 22 7",
-        "order right 6 7 6",
-        "order right 7 20 7",
-        "order withdraw 6 20 6",
-        "order issue 1 2 1",
-        "order issue 2 6 2",
-        "order issue 6 7 6",
-        "order issue 7 20 7",
-        "order issue 20 25 20",
-        "order check 1 2 1",
-        "order check 2 3 2",
-        "order check 3 7 3",
-        "order check 7 8 7",
-        "order check 8 9 8",
-        "order check 9 10 9",
-        "order check 10 20 10",
-        "order check 20 23 20",
-        "order check 23 25 23",
-        "order queue 1 2 1",
-        "order queue 2 3 2",
-        "order queue 3 4 3",
-        "order queue 4 7 4",
-        "order seal 1 2 1",
-        "order seal 2 4 2",
-        "order seal 4 12 4",
-        "order open 1 2 1",
-        "order open 2 4 2",
-        "order open 4 11 4",
-        "order open 11 13 11",
-        "order open 13 11 13",
-    ];
-    assert_eq!(lines_of("order"), written);
+    assert_eq!(lines_of("order"), ORDERS);
 }
 
 /// That both reasons of a pair hold: with nothing wrong the call is not refused, and
@@ -1102,10 +1127,10 @@ fn each_reason_of_a_pair_holds_by_itself() {
     check_reasons(&[6, 7, 22], enter_with);
     check_reasons(&[6, 7, 20], change_with);
     check_reasons(&[6, 20], withdraw_with);
-    check_reasons(&[1, 2, 6, 7, 20, 25], issue_with);
-    check_reasons(&[1, 2, 3, 7, 8, 9, 10, 20, 23, 25], check_with);
-    check_reasons(&[1, 2, 3, 4, 7], queue_with);
-    check_reasons(&[1, 2, 4, 12], seal_with);
+    check_reasons(&[1, 2, 6, 7, 14, 20, 25], issue_with);
+    check_reasons(&[1, 2, 3, 7, 14, 8, 9, 10, 20, 23, 25], check_with);
+    check_reasons(&[1, 2, 3, 4, 7, 14], queue_with);
+    check_reasons(&[1, 2, 4, 14, 12], seal_with);
     check_reasons(&[1, 2, 4, 11, 13], open_with);
 }
 
@@ -1476,12 +1501,370 @@ fn the_answers_about_pages_are_those_of_the_readme() {
 fn the_lines_about_pages_are_those_of_the_readme() {
     let readme = include_str!("../README.md");
     let orders = lines_of("order");
-    for lines in [&lines_of("chain")[..], &lines_of("form"), &orders[24..]] {
+    for lines in [&lines_of("chain")[..], &lines_of("form"), &orders[27..]] {
         assert!(readme.contains(&format!("    {}\n\n", lines.join("\n    "))));
     }
     let rows: Vec<String> = fields_of("pagewith")
         .iter()
         .map(|line| format!("| {} |", line[3..].join(" | ")))
         .collect();
+    assert!(readme.contains(&format!("|\n{}\n\n", rows.join("\n"))));
+}
+
+/// 256, 65536 and 16777216 are 1 followed by one, two and three zero bytes.
+#[test]
+fn the_calls_for_size_blocks_are_as_written_by_hand() {
+    let blocks = ["0", "1", "256", "65536", "16777216", "4294967295"];
+    let mut written = Vec::new();
+    for call in ["issue", "check", "queue", "seal", "open"] {
+        for block in blocks {
+            let refused = block == "0" && call != "open";
+            let number = if refused { "14" } else { "0" };
+            written.push(format!("sized {} {} {}", call, block, number));
+        }
+    }
+    assert_eq!(lines_of("sized"), written);
+    let refused: Vec<&String> = written.iter().filter(|l| l.ends_with(" 14")).collect();
+    let part: String = refused
+        .iter()
+        .map(|line| format!("    {}\n", line))
+        .collect();
+    assert_eq!(refused.len(), 4);
+    assert!(include_str!("../README.md").contains(&format!("\n\n{}\n", part)));
+}
+
+/// The numbers of a call, by the long keys with the most rounds. Everyone has count 1 and
+/// may overwrite. The grants and the page are made by the ways that are not refused.
+#[test]
+fn the_calls_for_size_blocks_are_the_same_under_other_keys() {
+    let key = bytes(KEYS[2]);
+    let second = vec![0xEE; 24];
+    let roll = Roll::with_entries([1; 200], [2; 200]);
+    for line in fields_of("sized") {
+        let block: u32 = line[2].parse().expect("a size block");
+        let digits = format!("00c80001{:08x}02475244", block);
+        let grant = encrypt(&key, 23, &bytes(&digits)).expect("12 bytes");
+        let mut answer = [0xFF];
+        let (mut scratch, mut out) = ([0; 576], [0; 512]);
+        let mut plain = [0; 504];
+        plain[..4].copy_from_slice(&block.to_be_bytes());
+        let page = page_under(&key, &second, 23, &plain).expect("two keys");
+        let refusal = match line[1].as_str() {
+            "issue" => said(roll.issue(&key, 23, 200, block, 2)),
+            "check" => said(roll.check(&key, 23, &grant, block, 2)),
+            "queue" => said(roll.check_queue(&key, 23, &grant, block, 2, &mut answer)),
+            "seal" => seal(&key, &second, 23, block, 0, &[], &mut scratch, &mut out)
+                .map_or_else(|refusal| refusal.number(), |_| 0),
+            _ => open(&key, &second, 23, &page, &mut scratch, &mut out)
+                .map_or_else(|refusal| refusal.number(), |_| 0),
+        };
+        assert_eq!(refusal.to_string(), line[3], "{:?}", line);
+        let answered = line[1] == "queue" && block != 0;
+        assert_eq!(answer, if answered { [0] } else { [0xFF] });
+    }
+}
+
+/// The number of a call on a roll.
+fn said<T>(called: Result<T, Refusal>) -> u8 {
+    called.map_or_else(|refusal| refusal.number(), |_| 0)
+}
+
+/// The orders are those of README.md. For a queue, the reasons of its grants are tried
+/// after those of the whole call.
+#[test]
+fn the_reasons_with_14_are_as_written_by_hand() {
+    let orders: [(&str, &[u8]); 4] = [
+        ("issue", &[1, 2, 6, 7, 14, 20, 25]),
+        ("check", &[1, 2, 3, 7, 14, 8, 9, 10, 20, 23, 25]),
+        ("queue", &[1, 2, 3, 4, 7, 14, 8, 9, 10, 20, 23, 25]),
+        ("seal", &[1, 2, 4, 14, 12]),
+    ];
+    let mut written = Vec::new();
+    for (call, order) in orders {
+        let place = order.iter().position(|reason| *reason == 14);
+        let (before, after) = order.split_at(place.expect("14 is there"));
+        for first in before {
+            written.push(format!("both {} {} 14 {}", call, first, first));
+        }
+        for later in &after[1..] {
+            written.push(format!("both {} 14 {} 14", call, later));
+        }
+    }
+    assert_eq!(lines_of("both"), written);
+    let readme = include_str!("../README.md");
+    assert!(readme.contains(&format!("\n\n    {}\n\n", written.join("\n    "))));
+}
+
+/// The other reason of each pair holds by itself. That 14 does is tested with the orders.
+/// The reasons of the grants in a queue do not refuse it: then a check shows them.
+#[test]
+fn the_other_reason_of_a_pair_with_14_holds_by_itself() {
+    for line in fields_of("both") {
+        let other = if line[2] == "14" { &line[3] } else { &line[2] };
+        let reasons = [number(other) as u8];
+        let given = match line[1].as_str() {
+            "issue" => issue_with(&reasons),
+            "check" => check_with(&reasons),
+            "queue" if line[2] != "14" => queue_with(&reasons),
+            "queue" => {
+                assert_eq!(queue_with(&reasons), "0");
+                check_with(&reasons)
+            }
+            _ => seal_with(&reasons),
+        };
+        assert_eq!(given, *other, "{:?}", line);
+    }
+}
+
+/// Contractor 7, count 1 and size block 0 are in all grants. README.md prints these lines.
+#[test]
+fn the_judgements_of_old_grants_are_as_written_by_hand() {
+    let written = [
+        "oldgrant 000700010000000002475244 1 2 0 2 14 0 0",
+        "oldgrant 000700010000000002475244 1 2 0 1 14 0 0",
+        "oldgrant 000700010000000001475244 1 2 0 1 14 0 0",
+        "oldgrant 000700010000000001475244 1 2 0 2 14 0 0",
+        "oldgrant 000700010000000002475244 1 2 1 2 9 0 0",
+        "oldgrant 000700010000000002475244 1 2 256 2 9 0 0",
+        "oldgrant 000700010000000002475244 1 2 65536 2 9 0 0",
+        "oldgrant 000700010000000002475244 1 2 16777216 2 9 0 0",
+        "oldgrant 000700010000000002475244 1 2 4294967295 2 9 0 0",
+        "oldgrant 000700010000000002475244 1 2 300 2 9 0 0",
+        "oldgrant 000700010000000002475244 1 2 300 1 9 0 0",
+        "oldgrant 000700010000000001475244 1 2 300 1 9 0 0",
+        "oldgrant 000700010000000001475244 1 2 300 2 9 0 0",
+        "oldgrant 000700010000000002475244 2 2 0 2 14 0 0",
+        "oldgrant 000700010000000002475244 2 2 300 2 9 0 0",
+        "oldgrant 000700010000000002475244 3 2 0 2 14 0 0",
+        "oldgrant 000700010000000002475244 3 2 300 2 9 0 0",
+        "oldgrant 000700010000000002475244 1 1 0 2 14 0 0",
+        "oldgrant 000700010000000002475244 1 1 300 2 9 0 0",
+        "oldgrant 000700010000000003475244 1 2 0 2 14 0 0",
+        "oldgrant 000700010000000003475244 1 2 300 2 8 0 0",
+        "oldgrant 000700010000000002475244 1 2 0 3 7 0 0",
+        "oldgrant 000700010000000002475244 1 2 300 3 7 0 0",
+    ];
+    assert_eq!(lines_of("oldgrant"), written);
+    let readme = include_str!("../README.md");
+    assert!(readme.contains(&format!("\n\n    {}\n\n", written.join("\n    "))));
+}
+
+/// Under the key of 18 bytes, by the way that is named for old grants.
+#[test]
+fn the_judgements_of_old_grants_are_the_same_under_another_key() {
+    let key = bytes(KEYS[1]);
+    for line in fields_of("oldgrant") {
+        let granted = bytes(&line[1])[8];
+        let [count, figure, block, asked] = [2, 3, 4, 5].map(|k| number(&line[k]));
+        let grant = old_zero_grant(&key, 16, 7, 1, granted).expect("an allowed key");
+        let plain = encrypt(&key, 16, &bytes(&line[1])).expect("12 bytes");
+        assert_eq!(grant, plain);
+        let roll = Roll::with_entries([count as u16; 200], [figure as u8; 200]);
+        let checked = roll.check(&key, 16, &grant, block as u32, asked as u8);
+        assert_eq!(format!("{} 0 0", said(checked)), line[6..].join(" "));
+    }
+}
+
+/// The plain bytes of the grants in the queue with old ones. README.md prints them.
+const OLD_QUEUE: [&str; 6] = [
+    "000100010000000002475244",
+    "000100010000012c02475244",
+    "000100010000000001475244",
+    "000200020000000002475244",
+    "000100010000010002475244",
+    "000300030000000002475244",
+];
+
+/// What the lines `oldqueue` have from the size block on. README.md prints them. The last
+/// two are for no grants. Size block 256 is hex 100.
+const OLD_QUEUE_ANSWERS: [&str; 9] = [
+    "300 2 0 9 0 9 9 9 9",
+    "300 1 0 9 0 9 9 9 9",
+    "256 2 0 9 9 9 9 0 9",
+    "1 2 0 9 9 9 9 9 9",
+    "0 2 14 255 255 255 255 255 255",
+    "0 1 14 255 255 255 255 255 255",
+    "0 3 7 255 255 255 255 255 255",
+    "300 2 0",
+    "0 2 14",
+];
+
+#[test]
+fn the_queues_with_old_grants_are_as_worked_out_by_hand() {
+    let turned = states(&fields_of("turned")[0][3]);
+    let lines = fields_of("oldqueue");
+    assert_eq!(lines.len(), OLD_QUEUE_ANSWERS.len());
+    for (k, line) in lines.iter().enumerate() {
+        assert_eq!(line[1..5], [KEYS[0], "10", "1,2,3", "2,1,255"]);
+        assert_eq!(line[6..].join(" "), OLD_QUEUE_ANSWERS[k]);
+        if k >= 7 {
+            assert_eq!(line[5], "-");
+            continue;
+        }
+        let plain: Vec<String> = states(&line[5])
+            .iter()
+            .map(|grant| encrypt_with(&turned, grant).expect("there are subkeys"))
+            .map(|state| hex(&state.to_bytes()))
+            .collect();
+        assert_eq!(plain, OLD_QUEUE);
+    }
+}
+
+#[test]
+fn the_queues_with_old_grants_are_those_of_the_readme() {
+    let readme = include_str!("../README.md");
+    let plain = OLD_QUEUE.map(|digits| format!("    {}\n", digits));
+    assert!(readme.contains(&format!("\n\n{}\n", plain.concat())));
+    let mut fields: Vec<String> = OLD_QUEUE_ANSWERS[..7]
+        .iter()
+        .map(|answers| format!("    ... {}\n", answers))
+        .collect();
+    let empty = OLD_QUEUE_ANSWERS[7..].iter();
+    fields.extend(empty.map(|answers| format!("    - {}\n", answers)));
+    assert!(readme.contains(&format!("\n\n{}\n", fields.concat())));
+}
+
+/// An answer that was written is the number of a check of the grant alone. In a queue that
+/// is refused, all bytes are as they were, and a check of any grant is refused with the same
+/// number.
+#[test]
+fn the_queues_with_old_grants_are_those_of_single_checks() {
+    for line in fields_of("oldqueue") {
+        let roll = queue_roll(&line);
+        let key = bytes(&line[1]);
+        let [block, right, whole] = [6, 7, 8].map(|k| number(&line[k]));
+        let grants = if line[5] == "-" {
+            Vec::new()
+        } else {
+            bytes(&line[5])
+        };
+        assert_eq!(grants.len(), 12 * line[9..].len());
+        for (grant, answer) in grants.chunks(12).zip(&line[9..]) {
+            let alone = said(roll.check(&key, 10, grant, block as u32, right as u8));
+            if whole == 0 {
+                assert_eq!(*answer, alone.to_string());
+            } else {
+                assert_eq!((usize::from(alone), answer.as_str()), (whole, "255"));
+            }
+        }
+    }
+}
+
+/// A row of the table of old pages in README.md: the bytes of the first key, the rounds,
+/// the page number, how many bytes are used, the number and the words for the page.
+type OldPage = (usize, usize, u16, usize, u8, &'static str);
+
+/// The old pages.
+const OLD_PAGES: [OldPage; 6] = [
+    (12, 10, 7, 17, 0, "page 7, 17 bytes used"),
+    (18, 17, 65_535, 492, 0, "page 65535, 492 bytes used"),
+    (24, 23, 0, 0, 0, "page 0, no byte used"),
+    (
+        12,
+        10,
+        7,
+        17,
+        13,
+        "the first one with the last byte of its check xored with 1",
+    ),
+    (
+        12,
+        10,
+        7,
+        17,
+        11,
+        "the first one with byte 17 of the payload 1 before it was made",
+    ),
+    (
+        12,
+        10,
+        7,
+        17,
+        11,
+        "the first one with byte 8 of the page 1, and a check that is right for that",
+    ),
+];
+
+/// The header and the payload of an old page, written out: byte i of the payload is 7i + 1.
+fn old_plain(page_number: u16, used: usize) -> [u8; 504] {
+    let mut plain = [0; 504];
+    plain[4..6].copy_from_slice(&page_number.to_be_bytes());
+    plain[6] = (used / 256) as u8;
+    plain[7] = (used % 256) as u8;
+    for (i, byte) in plain[12..12 + used].iter_mut().enumerate() {
+        *byte = (7 * i + 1) as u8;
+    }
+    plain
+}
+
+/// The fourth page has a wrong check, the fifth a byte after the used ones, and the sixth a
+/// byte of the header that has to be zero. The last two are made with a right check.
+#[test]
+fn the_old_pages_are_as_worked_out_by_hand() {
+    let seconds = [KEYS[0], KEYS[1], KEYS[2]].map(|key| {
+        let mut second = bytes(key);
+        *second.last_mut().expect("a key has bytes") ^= 1;
+        hex(&second)
+    });
+    let mut written = Vec::new();
+    for (k, (length, rounds, page_number, used, refused, _)) in OLD_PAGES.iter().enumerate() {
+        let (first, second) = (KEYS[length / 6 - 2], &seconds[length / 6 - 2]);
+        let mut plain = old_plain(*page_number, *used);
+        let payload = hex(&plain[12..]);
+        match k {
+            4 => plain[12 + 17] = 1,
+            5 => plain[8] = 1,
+            _ => {}
+        }
+        let page = page_under(&bytes(first), &bytes(second), *rounds, &plain);
+        let mut page = page.expect("two keys");
+        page[511] ^= u8::from(k == 3);
+        let opened = match refused {
+            0 => format!("0 0 {} {} {}", page_number, used, payload),
+            _ => format!("{} 0 0 0 -", refused),
+        };
+        let page = hex(&page);
+        let fields = [first, second, &rounds.to_string(), &page, &opened].join(" ");
+        written.push(format!("oldpage {}", fields));
+    }
+    assert_eq!(lines_of("oldpage"), written);
+}
+
+/// The pages that open are those that the way named for old pages makes.
+#[test]
+fn the_old_pages_that_open_are_made_by_their_own_call() {
+    for (line, (_, rounds, page_number, used, _, _)) in
+        fields_of("oldpage")[..3].iter().zip(OLD_PAGES)
+    {
+        let [first, second] = [1, 2].map(|k| bytes(&line[k]));
+        let plain = old_plain(page_number, used);
+        let payload = &plain[12..12 + used];
+        let page = old_zero_page(&first, &second, rounds, page_number, payload);
+        assert_eq!(page, Ok(bytes(&line[4])));
+        let (mut scratch, mut out) = ([0; 576], [0; 512]);
+        let sealed = seal(
+            &first,
+            &second,
+            rounds,
+            0,
+            page_number,
+            payload,
+            &mut scratch,
+            &mut out,
+        );
+        assert_eq!(sealed.map_err(|refusal| refusal.number()), Err(14));
+    }
+}
+
+#[test]
+fn the_old_pages_are_those_of_the_readme() {
+    let rows = OLD_PAGES.map(|(length, rounds, page_number, used, refused, words)| {
+        let answered = match refused {
+            0 => format!("0 | 0 | {} | {}", page_number, used),
+            _ => format!("{} | 0 | 0 | 0", refused),
+        };
+        format!("| {} | {} | {} | {} |", length, rounds, words, answered)
+    });
+    let readme = include_str!("../README.md");
     assert!(readme.contains(&format!("|\n{}\n\n", rows.join("\n"))));
 }

@@ -368,6 +368,16 @@ fn the_refusals_with_10_and_25_are_as_many_as_documented() {
     assert!(readme.contains("70 checks and 74 issues are refused with 25."));
 }
 
+/// Then neither the size block of a life nor the one after it is 0, for which there would
+/// be other numbers.
+#[test]
+fn no_life_is_for_size_block_0_or_the_one_before_it() {
+    for log in log_lines().chunks(LINES_PER_LIFE) {
+        let block = number(&log[0][4]);
+        assert!(block > 0 && block < 4_294_967_295);
+    }
+}
+
 #[test]
 fn both_rights_occur_for_each_key_length() {
     let lines = log_lines();

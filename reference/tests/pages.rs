@@ -6,9 +6,9 @@ use curupira_reference::generator::Generator;
 use curupira_reference::layers::{inverse_pi, inverse_sigma, pi, sigma};
 use curupira_reference::matrix::{Matrix, State};
 use curupira_reference::pages::{
-    chain, keys_allowed, open, opened_with, page_under, page_with, plain_bytes, seal, unchain,
-    Header, Refusal, CHECKED_LENGTH, CHECK_LENGTH, HEADER_LENGTH, PAGE_LENGTH, PAYLOAD_LENGTH,
-    SCRATCH_LENGTH,
+    chain, keys_allowed, old_zero_page, open, opened_with, page_under, page_with, plain_bytes,
+    seal, unchain, Header, Refusal, CHECKED_LENGTH, CHECK_LENGTH, HEADER_LENGTH, PAGE_LENGTH,
+    PAYLOAD_LENGTH, SCRATCH_LENGTH,
 };
 use curupira_reference::schedule::round_subkeys;
 use curupira_reference::vectors::pages_text;
@@ -27,12 +27,13 @@ const HEADER: Header = Header {
 };
 
 /// The inputs of a call. For sealing, the page is not used; for opening, neither are the
-/// payload and the two numbers of the header.
+/// payload, the size block and the page number.
 #[derive(Clone)]
 struct Call {
     first: Vec<u8>,
     second: Vec<u8>,
     rounds: usize,
+    block: u32,
     payload: Vec<u8>,
     page: Vec<u8>,
     scratch: usize,
@@ -55,6 +56,7 @@ impl Call {
             first,
             second,
             rounds,
+            block: HEADER.size_block,
             payload: (1..=251).cycle().take(used).collect(),
             page: Vec::new(),
             scratch: 576,
@@ -68,7 +70,7 @@ impl Call {
             &self.first,
             &self.second,
             self.rounds,
-            HEADER.size_block,
+            self.block,
             HEADER.page_number,
             &self.payload,
             &mut scratch,
@@ -113,14 +115,29 @@ impl Call {
         page.expect("the keys and the rounds are allowed")
     }
 
-    /// The plain bytes of the page that the call seals, written out.
+    /// The plain bytes of the page that the call seals, written out, or would seal if its
+    /// size block were not 0.
     fn plain(&self) -> [u8; 504] {
         let mut plain = [0; 504];
-        plain[..6].copy_from_slice(&[1, 2, 3, 4, 5, 6]);
+        plain[..4].copy_from_slice(&self.block.to_be_bytes());
+        plain[4..6].copy_from_slice(&[5, 6]);
         plain[6] = (self.payload.len() / 256) as u8;
         plain[7] = (self.payload.len() % 256) as u8;
         plain[12..12 + self.payload.len()].copy_from_slice(&self.payload);
         plain
+    }
+}
+
+impl Call {
+    /// The same call for size block 0, with the old page of its payload to be opened.
+    fn with_old_page(&self) -> Self {
+        let (first, second) = (&self.first, &self.second);
+        let page = old_zero_page(first, second, self.rounds, 0x0506, &self.payload);
+        let page = page.expect("the keys, the rounds and the payload are allowed");
+        Call {
+            block: 0,
+            ..self.with_page(page)
+        }
     }
 }
 
@@ -219,6 +236,7 @@ fn the_numbers_are_as_documented() {
         (Refusal::NoPage, 11),
         (Refusal::LongPayload, 12),
         (Refusal::OtherCheck, 13),
+        (Refusal::ZeroBlock, 14),
     ];
     for (refusal, number) in numbers {
         assert_eq!(refusal.number(), number);
@@ -299,6 +317,7 @@ fn a_chain_goes_on_from_its_last_block() {
     }
 }
 
+/// The first header is one of an old page.
 #[test]
 fn a_header_is_as_written_by_hand() {
     let cases: [(u32, u16, u16, [u8; 12]); 4] = [
@@ -808,6 +827,9 @@ const LENT_SHORT: [Change; 4] = [
     |call| call.out = 0,
 ];
 
+/// A way to make reason 14 hold.
+const BLOCK_ZERO: [Change; 1] = [|call| call.block = 0];
+
 /// Ways to make reason 12 hold.
 const PAYLOAD_LONG: [Change; 2] = [
     |call| call.payload.push(0),
@@ -822,16 +844,17 @@ const FORM_WRONG: [Change; 4] = [
     |call| call.page.truncate(511),
 ];
 
-/// Ways to make reason 13 hold.
-const CHECK_WRONG: [Change; 3] = [
+/// Ways to make reason 13 hold. The last two change the size block in the header.
+const CHECK_WRONG: [Change; 4] = [
     |call| call.page[504] ^= 1,
     |call| call.page[503] ^= 1,
     |call| call.page[0] ^= 1,
+    |call| call.page[3] ^= 4,
 ];
 
 /// Ways to make the second reason 11 hold.
 const UNUSED_WRONG: [Change; 1] = [|call| {
-    let mut plain = Call::new(12, 10, 17).plain();
+    let mut plain = call.plain();
     plain[12 + 17] = 1;
     call.page = call.page_of(&plain);
 }];
@@ -875,19 +898,30 @@ fn check_refused<T>(after: &After<T>, number: u8, early: bool) {
 #[test]
 fn a_sealing_is_refused_with_the_first_of_two_reasons() {
     let good = Call::new(12, 10, 492);
-    let order: [(u8, &[Change]); 4] = [
+    let order: [(u8, &[Change]); 5] = [
         (1, &KEYS_WRONG),
         (2, &ROUNDS_WRONG),
         (4, &LENT_SHORT),
+        (14, &BLOCK_ZERO),
         (12, &PAYLOAD_LONG),
     ];
-    check_order(&good, &order, 4, Call::seal);
+    check_order(&good, &order, 5, Call::seal);
 }
 
 #[test]
 fn an_opening_is_refused_with_the_first_of_two_reasons() {
     let good = Call::new(12, 10, 17);
-    let good = good.with_page(good.seal().out);
+    check_opening_order(&good.with_page(good.seal().out));
+}
+
+/// An old page is opened on the same terms as a page for any other size block.
+#[test]
+fn an_opening_of_an_old_page_is_refused_with_the_first_of_the_same_reasons() {
+    check_opening_order(&Call::new(12, 10, 17).with_old_page());
+}
+
+/// Checks the order of the reasons for opening a page with which nothing is wrong.
+fn check_opening_order(good: &Call) {
     let order: [(u8, &[Change]); 6] = [
         (1, &KEYS_WRONG),
         (2, &ROUNDS_WRONG),
@@ -896,7 +930,119 @@ fn an_opening_is_refused_with_the_first_of_two_reasons() {
         (13, &CHECK_WRONG),
         (11, &UNUSED_WRONG),
     ];
-    check_order(&good, &order, 4, Call::open);
+    check_order(good, &order, 4, Call::open);
+}
+
+/// 14 comes after 4, so that the keys, the rounds and the lent bytes are good here.
+#[test]
+fn no_page_is_sealed_for_size_block_0() {
+    for (length, least, most) in SIZES {
+        for rounds in least..=most {
+            for used in [0, 17, 492, 493] {
+                let call = Call {
+                    block: 0,
+                    ..Call::new(length, rounds, used)
+                };
+                let after = call.seal();
+                assert_eq!(after.answer, Err(Refusal::ZeroBlock));
+                assert!(after.untouched());
+            }
+        }
+    }
+}
+
+/// Each of 32 bits alone, and some numbers of which whole bytes are 0.
+#[test]
+fn a_page_is_sealed_and_opened_for_any_other_size_block() {
+    let bits = (0..32).map(|bit| 1 << bit);
+    for block in bits.chain([0x00FF_00FF, 0xFF00_FF00, 4_294_967_295]) {
+        let call = Call {
+            block,
+            ..Call::new(12, 10, 17)
+        };
+        let after = call.seal();
+        assert_eq!(after.answer, Ok(()), "size block {}", block);
+        assert_eq!(after.out[..4], block.to_be_bytes());
+        let opened = call.with_page(after.out).open();
+        let header = opened.answer.expect("a page");
+        assert_eq!(header.size_block, block);
+    }
+}
+
+/// Under every number of rounds. The page is the one of the words, with four zero bytes
+/// where the size block is.
+#[test]
+fn an_old_page_opens_with_its_payload_and_header() {
+    for (length, least, most) in SIZES {
+        for rounds in least..=most {
+            let call = Call::new(length, rounds, 41 * rounds % 493).with_old_page();
+            assert_eq!(call.page, page_by_words(&call, &call.plain()));
+            assert_eq!(call.page[..6], [0, 0, 0, 0, 5, 6]);
+            let after = call.open();
+            let header = Header {
+                size_block: 0,
+                page_number: 0x0506,
+                used: call.payload.len() as u16,
+            };
+            assert_eq!(after.answer, Ok(header));
+            assert_eq!(after.out, call.plain()[12..]);
+            assert!(after.wiped());
+        }
+    }
+}
+
+/// The page number, and the bytes of the payload.
+#[test]
+fn old_pages_of_many_lengths_open() {
+    for (page_number, used) in [(0, 0), (0, 1), (65_535, 12), (256, 491), (1, 492)] {
+        let call = Call::new(12, 11, used);
+        let (first, second) = (&call.first, &call.second);
+        let page = old_zero_page(first, second, 11, page_number, &call.payload);
+        let after = call.with_page(page.expect("an old page")).open();
+        let header = after.answer.expect("it opens");
+        assert_eq!((header.size_block, header.page_number), (0, page_number));
+        assert_eq!(usize::from(header.used), used);
+        assert_eq!(after.out, call.plain()[12..]);
+    }
+}
+
+/// It is no call of the store, so that 4 and 14 are no reasons of it.
+#[test]
+fn an_old_page_is_made_unless_the_keys_the_rounds_or_the_payload_are_wrong() {
+    let cases = [
+        (12, 10, 492, 0),
+        (12, 10, 493, 12),
+        (12, 9, 493, 2),
+        (12, 12, 17, 2),
+        (13, 12, 493, 1),
+        (24, 23, 0, 0),
+    ];
+    for (length, rounds, used, refused) in cases {
+        let call = Call::new(length, rounds, used);
+        let (first, second) = (&call.first, &call.second);
+        let made = old_zero_page(first, second, rounds, 1, &call.payload);
+        let number = made.map_or_else(Refusal::number, |_| 0);
+        assert_eq!(number, refused);
+    }
+    let key = [1; 12];
+    let made = old_zero_page(&key, &key, 10, 1, &[]);
+    assert_eq!(made, Err(Refusal::Keys));
+}
+
+/// What is stored of an old page is damaged, one byte of each block and each byte of the
+/// header and of the check. Where the size block becomes another than 0, the check does
+/// not become right.
+#[test]
+fn a_damaged_old_page_is_refused_with_13() {
+    let call = Call::new(12, 10, 17).with_old_page();
+    let one_a_block = (1..42).map(|block| 12 * block + block % 12);
+    for position in (0..6).chain([7]).chain(one_a_block).chain(504..512) {
+        let mut damaged = call.clone();
+        damaged.page[position] ^= 1;
+        let after = damaged.open();
+        assert_eq!(after.answer, Err(Refusal::OtherCheck), "byte {}", position);
+        assert!(after.only_wiped());
+    }
 }
 
 /// The fields of the lines that the subcommand prints.

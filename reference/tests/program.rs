@@ -64,7 +64,7 @@ fn the_generator_starts_as_documented() {
 
 #[test]
 fn bad_usage_ends_with_status_two() {
-    let wrong: [&[&str]; 11] = [
+    let wrong: [&[&str]; 14] = [
         &[],
         &["other"],
         &[""],
@@ -76,6 +76,9 @@ fn bad_usage_ends_with_status_two() {
         &["pages", "answers"],
         &["constant"],
         &["constants", "12"],
+        &["zeros"],
+        &["0"],
+        &["zero", "grants"],
     ];
     for arguments in wrong {
         let output = run(arguments);
@@ -364,6 +367,7 @@ fn grants_draws_its_inputs_as_documented() {
                 let key = draw.hex(key_length);
                 let contractor = 1 + value(&draw.hex(1)) % 200;
                 let block = value(&draw.hex(4));
+                assert!(block != 0 && block != 4294967295);
                 let right = 1 + value(&draw.hex(1)) % 2;
                 let numbers = format!("{} {} {} {}", rounds, contractor, block, right);
                 assert_eq!(next().join(" "), format!("life {} {}", key, numbers));
@@ -394,6 +398,7 @@ fn pages_draws_its_inputs_as_documented() {
             let (block, number) = (draw.hex(4), draw.hex(2));
             let used = value(&draw.hex(2)) % 493;
             let [block, number] = [block, number].map(|digits| value(&digits));
+            assert_ne!(block, 0);
             let numbers = format!("{} {} {} {}", rounds, block, number, used);
             let inputs = format!("page {} {} {}", first, second, numbers);
             assert_eq!(line[..7].join(" "), inputs);
@@ -404,6 +409,82 @@ fn pages_draws_its_inputs_as_documented() {
         }
     }
     assert!(rest.next().is_none());
+}
+
+/// What the lines of a life of `zero` start with, after its first one: B is the size block
+/// of the life, and R its right.
+const ZERO_LIFE: [&str; 32] = [
+    "old",
+    "issue 0 R",
+    "check old 0 R",
+    "check old B R",
+    "enter R",
+    "issue 0 R",
+    "issue B R",
+    "check old 0 R",
+    "check old B R",
+    "check new 0 R",
+    "check new B R",
+    "queue 0 R",
+    "queue B R",
+    "right 1",
+    "issue 0 2",
+    "check old 0 2",
+    "check old B 2",
+    "withdraw",
+    "issue 0 R",
+    "check old 0 R",
+    "check old B R",
+    "check new B R",
+    "enter R",
+    "check old 0 R",
+    "check old B R",
+    "check new B R",
+    "entry",
+    "seal 0",
+    "seal B",
+    "oldpage",
+    "open old",
+    "open new",
+];
+
+/// Each of the four places of the byte that is not zero in BLOCK is drawn, and both rights.
+#[test]
+fn zero_draws_its_inputs_as_documented() {
+    let mut draw = Draw::new();
+    let printed = lines("zero");
+    assert_eq!(printed.len(), 12 * 33);
+    let mut rest = printed.iter();
+    let (mut places, mut rights) = ([0; 4], [0; 2]);
+    for (key_length, least, greatest) in SIZES {
+        for rounds in least..=greatest {
+            let mut next = || rest.next().expect("there are more lines").join(" ");
+            let (first, second) = (draw.hex(key_length), draw.hex(key_length));
+            let [x, y, z, w] = [(); 4].map(|_| value(&draw.hex(1)));
+            let (contractor, right) = (1 + x % 200, 1 + y % 2);
+            let place = z % 4;
+            let block = (1 + w % 255) << (8 * place);
+            places[place as usize] += 1;
+            rights[right as usize - 1] += 1;
+            let (page_number, used) = (value(&draw.hex(2)), value(&draw.hex(2)) % 493);
+            let keys = format!("zero {} {} {}", first, second, rounds);
+            let numbers = format!("{} {} {} {}", contractor, block, right, page_number);
+            assert_eq!(next(), format!("{} {} {}", keys, numbers, used));
+            let payload = format!(" {}", draw.hex(used as usize));
+            for call in ZERO_LIFE {
+                let line = next();
+                let words = call.replace('B', &block.to_string());
+                let words = words.replace('R', &right.to_string());
+                assert!(line.starts_with(&format!("{} ", words)));
+                assert!(!call.starts_with("open") || line.contains(&payload));
+            }
+        }
+    }
+    assert!(rest.next().is_none());
+    assert!(places.iter().all(|count| *count > 0));
+    assert_eq!(rights, [5, 7]);
+    let documented = "RIGHT is 1 in 5 lives and 2 in 7 lives.";
+    assert!(include_str!("../README.md").contains(documented));
 }
 
 /// The payload of a page, as it is opened.
@@ -418,7 +499,7 @@ fn opened(keys: &[&str; 2], rounds: usize, page: &str) -> Vec<u8> {
 
 /// The names of the lines of answers, each with how many there are of it and how many
 /// fields they have, the name being one of them.
-const ANSWERS: [(&str, usize, usize); 32] = [
+const ANSWERS: [(&str, usize, usize); 38] = [
     ("limits", 3, 4),
     ("roll", 1, 6),
     ("rollbytes", 1, 6),
@@ -443,14 +524,20 @@ const ANSWERS: [(&str, usize, usize); 32] = [
     ("changed", 25, 9),
     ("queued", 11, 3),
     ("queue", 2, 13),
-    ("order", 24, 5),
+    ("order", 27, 5),
     ("chain", 1, 6),
     ("pair", 9, 4),
     ("form", 16, 6),
     ("pagewith", 5, 8),
     ("altered", 14, 9),
     ("padded", 19, 9),
-    ("order", 8, 5),
+    ("order", 9, 5),
+    ("sized", 30, 4),
+    ("both", 31, 5),
+    ("oldgrant", 23, 9),
+    ("oldqueue", 7, 15),
+    ("oldqueue", 2, 9),
+    ("oldpage", 6, 10),
 ];
 
 #[test]

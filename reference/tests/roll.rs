@@ -8,8 +8,8 @@ use curupira_reference::cipher::{decryption_keys, encrypt, encrypt_with};
 use curupira_reference::generator::Generator;
 use curupira_reference::matrix::Matrix;
 use curupira_reference::roll::{
-    covers, highest, in_standing, queue_length, within, Accepted, Grant, Refusal, Roll,
-    OVERWRITING, READING,
+    covers, highest, in_standing, may_be_asked_for, old_zero_grant, queue_length, within, Accepted,
+    Grant, Refusal, Roll, OVERWRITING, READING, ZERO_BLOCK,
 };
 use curupira_reference::schedule::round_subkeys;
 
@@ -47,8 +47,8 @@ const PILE_ROLL: [(usize, u16, u8); 9] = [
 
 /// A pile of grants. Size block 300 is asked for. Bytes 0 and 1 are the contractor, byte 3
 /// is the end of the count, byte 7 the end of the size block, byte 8 the right and byte 11
-/// the end of the mark.
-const PILE: [Piled; 27] = [
+/// the end of the mark. Those in which bytes 6 and 7 are 0 are old grants for size block 0.
+const PILE: [Piled; 34] = [
     (&[], [0, 0]),
     (&[(8, 1)], [0, 10]),
     (&[(7, 0x2D)], [9, 9]),
@@ -76,6 +76,13 @@ const PILE: [Piled; 27] = [
     (&[(1, 14), (3, 2)], [20, 20]),
     (&[(1, 15)], [23, 23]),
     (&[(1, 15), (3, 3)], [0, 25]),
+    (&[(6, 0), (7, 0)], [9, 9]),
+    (&[(6, 0), (7, 0), (8, 1)], [9, 9]),
+    (&[(6, 0), (7, 0), (1, 8), (3, 2)], [9, 9]),
+    (&[(6, 0), (7, 0), (1, 9), (3, 1)], [9, 9]),
+    (&[(6, 0), (7, 0), (1, 10)], [9, 9]),
+    (&[(6, 0), (7, 0), (8, 3)], [8, 8]),
+    (&[(6, 0), (7, 0), (11, 0x45)], [8, 8]),
 ];
 
 /// The number of a call: 0, or the number of the reason for which it is refused.
@@ -150,6 +157,7 @@ fn the_numbers_are_as_documented() {
         (Refusal::NoGrant, 8),
         (Refusal::OtherBlock, 9),
         (Refusal::ReadingOnly, 10),
+        (Refusal::ZeroBlock, 14),
         (Refusal::NotInStanding, 20),
         (Refusal::InStanding, 21),
         (Refusal::Full, 22),
@@ -470,14 +478,18 @@ fn the_calls_that_write_are_refused_in_their_order_and_change_nothing_then() {
 #[test]
 fn an_issue_is_refused_by_the_entry_in_its_order() {
     for_all_entries(|contractor, right, count, figure| {
-        let refused = first_of(&[
-            (6, contractor == 0 || contractor > 200),
-            (7, right != 1 && right != 2),
-            (20, count != 1 && count != 65_533),
-            (25, right == 2 && figure != 2),
-        ]);
-        let issued = roll_of(count, figure).issue(&KEY, ROUNDS, contractor, 300, right);
-        assert_eq!(number(issued), refused);
+        for block in [0, 300] {
+            let refused = first_of(&[
+                (6, contractor == 0 || contractor > 200),
+                (7, right != 1 && right != 2),
+                (14, block == 0),
+                (20, count != 1 && count != 65_533),
+                (25, right == 2 && figure != 2),
+            ]);
+            let roll = roll_of(count, figure);
+            let issued = roll.issue(&KEY, ROUNDS, contractor, block, right);
+            assert_eq!(number(issued), refused);
+        }
     });
 }
 
@@ -546,16 +558,17 @@ fn an_issued_grant_has_the_plain_bytes_and_the_count_of_the_roll() {
             let grant = roll_at(1).issue(&key, rounds, 7, 300, OVERWRITING);
             let grant = grant.expect("contractor 7 is in standing");
             assert_eq!(deciphered(&key, rounds, &grant), PLAIN);
-            let grant = roll_at(65_533).issue(&key, rounds, 200, 0, READING);
+            let grant = roll_at(65_533).issue(&key, rounds, 200, 1, READING);
             let grant = grant.expect("contractor 200 is in standing");
-            let plain = [0, 200, 0xFF, 0xFD, 0, 0, 0, 0, 1, 0x47, 0x52, 0x44];
+            let plain = [0, 200, 0xFF, 0xFD, 0, 0, 0, 1, 1, 0x47, 0x52, 0x44];
             assert_eq!(deciphered(&key, rounds, &grant), plain);
         }
     }
 }
 
 /// The right in an issued grant, the right asked for, and what is answered. For
-/// another size block 9 comes first, whichever the rights are.
+/// another size block 9 comes first, whichever the rights are, but for size block 0, which
+/// is before 1 and after the last, it is 14.
 #[test]
 fn an_issued_grant_is_accepted_for_its_block_and_what_its_right_covers() {
     let roll = roll_at(1);
@@ -565,13 +578,15 @@ fn an_issued_grant_is_accepted_for_its_block_and_what_its_right_covers() {
         (OVERWRITING, READING, accepted(READING)),
         (OVERWRITING, OVERWRITING, accepted(OVERWRITING)),
     ];
-    for block in [0, 1, 300, 4_294_967_295] {
+    for block in [1, 300, 4_294_967_295] {
+        let refused = |asked: u32| if asked == 0 { 14 } else { 9 };
         for (granted, asked, answer) in cases {
             let grant = roll.issue(&KEY, ROUNDS, 7, block, granted).unwrap();
             let check = |block| roll.check(&KEY, ROUNDS, &grant, block, asked);
             assert_eq!(check(block), answer, "{} for {}", granted, asked);
-            assert_eq!(number(check(block.wrapping_add(1))), 9);
-            assert_eq!(number(check(block.wrapping_sub(1))), 9);
+            for other in [block.wrapping_add(1), block.wrapping_sub(1)] {
+                assert_eq!(number(check(other)), refused(other));
+            }
         }
     }
 }
@@ -784,24 +799,34 @@ fn no_figure_closes_for_reading() {
 }
 
 /// The roll has counts 1, 2 and 3, and the grant has them, for either right. Where the
-/// count is 2, the contractor is not in standing. Of those that open for reading, there
-/// are 2 grants with 2 counts and 5 figures; of those for overwriting, 1 with 2 and 1.
+/// count is 2, the contractor is not in standing. The grant is for size block 300, or an
+/// old one for 0, and either is asked for. Of those that open for reading, there are 2
+/// grants with 2 counts and 5 figures; of those for overwriting, 1 with 2 and 1. No old
+/// grant is among them.
 #[test]
 fn a_check_is_refused_by_the_entry_in_its_order() {
     let mut opened = [0, 0];
     for (granted, count_in_grant) in [(1, 1), (1, 2), (1, 3), (2, 1), (2, 2), (2, 3)] {
-        let grant = enciphered(&plain_with(&[(3, count_in_grant), (8, granted)]));
+        let [old, new] = [[0, 0], [0x01, 0x2C]].map(|[high, low]| {
+            let changes = [(3, count_in_grant), (6, high), (7, low), (8, granted)];
+            enciphered(&plain_with(&changes))
+        });
+        let by_entry = |count: u16, figure: u8, asked: u8| {
+            first_of(&[
+                (10, granted == 1 && asked == 2),
+                (20, count == 2),
+                (23, count != u16::from(count_in_grant)),
+                (25, asked == 2 && figure != 2),
+            ])
+        };
         for (count, figure) in counts_and_figures() {
+            let roll = roll_of(count, figure);
             for asked in [1, 2] {
-                let refused = first_of(&[
-                    (10, granted == 1 && asked == 2),
-                    (20, count == 2),
-                    (23, count != u16::from(count_in_grant)),
-                    (25, asked == 2 && figure != 2),
-                ]);
-                let roll = roll_of(count, figure);
-                let checked = roll.check(&KEY, ROUNDS, &grant, 300, asked);
-                assert_eq!(number(checked), refused);
+                let check = |grant, block| number(roll.check(&KEY, ROUNDS, grant, block, asked));
+                let refused = by_entry(count, figure, asked);
+                assert_eq!(check(&new, 300), refused);
+                assert_eq!(check(&old, 300), 9);
+                assert_eq!([check(&new, 0), check(&old, 0)], [14, 14]);
                 opened[usize::from(asked) - 1] += usize::from(refused == 0);
             }
         }
@@ -1271,29 +1296,52 @@ fn withdraw_with(reasons: &[u8]) -> u8 {
     number(roll_with(reasons).withdraw(contractor))
 }
 
+/// The size block that is asked for in a call in which the given reasons hold. Reasons 9
+/// and 14 are those of a check.
+fn asked_block(reasons: &[u8]) -> u32 {
+    let holds = |reason: u8| reasons.contains(&reason);
+    if holds(14) {
+        0
+    } else if holds(9) {
+        301
+    } else {
+        300
+    }
+}
+
 /// The number of an issue in which the given reasons hold.
 fn issue_with(reasons: &[u8]) -> u8 {
     let (key, rounds) = key_and_rounds(reasons);
     let (contractor, right) = contractor_and_right(reasons);
-    number(roll_with(reasons).issue(key, rounds, contractor, 300, right))
+    let block = asked_block(reasons);
+    number(roll_with(reasons).issue(key, rounds, contractor, block, right))
 }
 
 /// The number of a check with these rights, in the grant and asked for, in which the
 /// given reasons hold. For reason 7, 3 is asked for instead. For reason 20 the roll
 /// has count 2, and the grant has it too unless reason 23 is given. For reason 25 the
-/// figure is 1.
+/// figure is 1. For reason 14 size block 0 is asked for.
 fn check_of(granted: u8, asked: u8, reasons: &[u8]) -> u8 {
     let holds = |reason: u8| reasons.contains(&reason);
     let (key, rounds) = key_and_rounds(reasons);
+    let mut grant = grant_of(granted, reasons);
+    grant.truncate(if holds(3) { 11 } else { 12 });
+    let right = if holds(7) { 3 } else { asked };
+    number(roll_with(reasons).check(key, rounds, &grant, asked_block(reasons), right))
+}
+
+/// The whole grant of a check in which the given reasons hold. For reason 14 it is an old
+/// one for size block 0, unless reason 9 is given.
+fn grant_of(granted: u8, reasons: &[u8]) -> Vec<u8> {
+    let holds = |reason: u8| reasons.contains(&reason);
     let count = if holds(20) { 2 } else { 1 };
     let count_in_grant = if holds(23) { 3 } else { count };
     let last = if holds(8) { 0x45 } else { 0x44 };
-    let plain = plain_with(&[(3, count_in_grant), (8, granted), (11, last)]);
-    let mut grant = enciphered(&plain);
-    grant.truncate(if holds(3) { 11 } else { 12 });
-    let block = if holds(9) { 301 } else { 300 };
-    let right = if holds(7) { 3 } else { asked };
-    number(roll_with(reasons).check(key, rounds, &grant, block, right))
+    let mut changes = vec![(3, count_in_grant), (8, granted), (11, last)];
+    if holds(14) && !holds(9) {
+        changes.extend([(6, 0), (7, 0)]);
+    }
+    enciphered(&plain_with(&changes))
 }
 
 /// The number of a check for overwriting in which the given reasons hold. For reason
@@ -1356,22 +1404,22 @@ fn a_call_that_writes_is_refused_with_the_first_of_two_reasons() {
 
 #[test]
 fn an_issue_is_refused_with_the_first_of_two_reasons() {
-    check_order(&[1, 2, 6, 7, 20, 25], issue_with);
+    check_order(&[1, 2, 6, 7, 14, 20, 25], issue_with);
 }
 
 #[test]
 fn a_check_is_refused_with_the_first_of_two_reasons() {
-    check_order(&[1, 2, 3, 7, 8, 9, 10, 20, 23, 25], check_with);
+    check_order(&[1, 2, 3, 7, 14, 8, 9, 10, 20, 23, 25], check_with);
 }
 
 /// An overwriting grant opens its size block for reading on the same terms as a
 /// reading grant does, also for a contractor who may only read.
 #[test]
 fn a_check_for_reading_is_refused_with_the_first_of_the_same_reasons() {
-    check_order(&[1, 2, 3, 7, 8, 9, 20, 23], look_with);
-    check_order(&[1, 2, 3, 7, 8, 9, 20, 23], read_with);
-    check_order(&[1, 2, 3, 7, 8, 9, 20, 23], demoted_look_with);
-    check_order(&[1, 2, 3, 7, 8, 9, 20, 23], demoted_read_with);
+    check_order(&[1, 2, 3, 7, 14, 8, 9, 20, 23], look_with);
+    check_order(&[1, 2, 3, 7, 14, 8, 9, 20, 23], read_with);
+    check_order(&[1, 2, 3, 7, 14, 8, 9, 20, 23], demoted_look_with);
+    check_order(&[1, 2, 3, 7, 14, 8, 9, 20, 23], demoted_read_with);
 }
 
 /// The roll of PILE.
@@ -1441,7 +1489,7 @@ fn the_answers_for_a_pile_are_as_written_by_hand() {
 }
 
 /// The answers for 64 grants, the pile again and again, have to be the numbers of 64
-/// checks. The size block is the one in most grants, the one in the others, and one in
+/// checks. The size block is the one in most grants, the one in some others, and one in
 /// none.
 #[test]
 fn each_answer_is_the_number_of_a_check_of_that_grant_alone() {
@@ -1450,7 +1498,7 @@ fn each_answer_is_the_number_of_a_check_of_that_grant_alone() {
         let key: Vec<u8> = (1..).take(length).collect();
         let pile = pile_grants(&key, rounds);
         let grants: Vec<u8> = pile.iter().cycle().take(64).flatten().copied().collect();
-        for (block, right) in [(300, 1), (300, 2), (301, 1), (301, 2), (0, 1), (0, 2)] {
+        for (block, right) in [(300, 1), (300, 2), (301, 1), (301, 2), (1, 1), (1, 2)] {
             let alone: Vec<u8> = grants
                 .chunks(12)
                 .map(|grant| number(roll.check(&key, rounds, grant, block, right)))
@@ -1463,7 +1511,7 @@ fn each_answer_is_the_number_of_a_check_of_that_grant_alone() {
     }
 }
 
-/// 1, 2, 3, 4 and 7 are for the whole call, and 6, 21 and 22 for no check.
+/// 1, 2, 3, 4, 7 and 14 are for the whole call, and 6, 21 and 22 for no check.
 #[test]
 fn an_answer_is_0_or_one_of_six_reasons() {
     let grants = pile_grants(&KEY, ROUNDS);
@@ -1568,24 +1616,30 @@ fn a_queue_for_no_right_is_refused() {
     }
 }
 
-/// No grant is checked then, so that 1, 2 and 7 have to be looked at all the same.
+/// No grant is checked then, so that 1, 2, 7 and 14 have to be looked at all the same.
 #[test]
-fn a_queue_of_no_grants_is_refused_for_its_key_its_rounds_and_its_right() {
+fn a_queue_of_no_grants_is_refused_for_its_key_its_rounds_its_right_and_its_size_block() {
     let roll = roll_at(0);
     let cases = [
-        (12, 10, READING, 0),
-        (12, 11, OVERWRITING, 0),
-        (11, 10, READING, 1),
-        (12, 9, READING, 2),
-        (12, 12, OVERWRITING, 2),
-        (12, 10, 0, 7),
-        (12, 10, 3, 7),
+        (12, 10, READING, 300, 0),
+        (12, 11, OVERWRITING, 300, 0),
+        (11, 10, READING, 300, 1),
+        (12, 9, READING, 300, 2),
+        (12, 12, OVERWRITING, 300, 2),
+        (12, 10, 0, 300, 7),
+        (12, 10, 3, 300, 7),
+        (12, 10, READING, 0, 14),
+        (12, 11, OVERWRITING, 0, 14),
+        (12, 10, READING, 1, 0),
+        (12, 10, 3, 0, 7),
+        (12, 12, READING, 0, 2),
+        (11, 10, READING, 0, 1),
     ];
-    for (length, rounds, right, refused) in cases {
+    for (length, rounds, right, block, refused) in cases {
         for lent in [0, 1, 64, 65] {
             let mut answers = vec![LENT; lent];
             let key = &KEY[..length];
-            let called = roll.check_queue(key, rounds, &[], 300, right, &mut answers);
+            let called = roll.check_queue(key, rounds, &[], block, right, &mut answers);
             assert_eq!(number(called), refused);
             assert_eq!(answers, vec![LENT; lent]);
         }
@@ -1595,7 +1649,8 @@ fn a_queue_of_no_grants_is_refused_for_its_key_its_rounds_and_its_right() {
 /// The number of a queue in which the given reasons hold. It has `good` bytes, and `bad`
 /// bytes for reason 3. One byte is lent for each grant, also for one that is not whole;
 /// for reason 4 it is one less than there are whole grants. Every grant opens if it is
-/// looked at, so that a refused call that wrote an answer would show.
+/// looked at, or is for another size block if 0 is asked for, so that a refused call that
+/// wrote an answer would show.
 fn queue_call(good: usize, bad: usize, reasons: &[u8]) -> u8 {
     let holds = |reason: u8| reasons.contains(&reason);
     let (key, rounds) = key_and_rounds(reasons);
@@ -1607,7 +1662,8 @@ fn queue_call(good: usize, bad: usize, reasons: &[u8]) -> u8 {
     };
     let right = if holds(7) { 3 } else { OVERWRITING };
     let mut answers = vec![LENT; lent];
-    let called = roll_at(1).check_queue(key, rounds, &grants, 300, right, &mut answers);
+    let block = asked_block(reasons);
+    let called = roll_at(1).check_queue(key, rounds, &grants, block, right, &mut answers);
     let each = if reasons.is_empty() { 0 } else { LENT };
     assert_eq!(answers, vec![each; lent], "{:?}", reasons);
     number(called)
@@ -1630,7 +1686,205 @@ fn drawn_out_queue_with(reasons: &[u8]) -> u8 {
 
 #[test]
 fn a_queue_is_refused_with_the_first_of_two_reasons() {
-    check_order(&[1, 2, 3, 4, 7], long_queue_with);
-    check_order(&[1, 2, 3, 4, 7], cut_queue_with);
-    check_order(&[1, 2, 3, 4, 7], drawn_out_queue_with);
+    check_order(&[1, 2, 3, 4, 7, 14], long_queue_with);
+    check_order(&[1, 2, 3, 4, 7, 14], cut_queue_with);
+    check_order(&[1, 2, 3, 4, 7, 14], drawn_out_queue_with);
+}
+
+/// The size blocks that are tried around 0: each of 32 bits alone, and some of which one
+/// or more whole bytes are 0, so that a part of the number would be taken for 0.
+fn blocks_but_0() -> Vec<u32> {
+    let bits = (0..32).map(|bit| 1 << bit);
+    let others = [255, 300, 65_535, 0x0100_0001, 0xFF00_FF00, 0x00FF_00FF];
+    bits.chain(others).chain([4_294_967_295]).collect()
+}
+
+#[test]
+fn size_block_0_is_the_only_one_that_may_not_be_asked_for() {
+    assert_eq!(ZERO_BLOCK, 0);
+    assert!(!may_be_asked_for(0));
+    for block in blocks_but_0() {
+        assert!(may_be_asked_for(block), "size block {}", block);
+    }
+}
+
+/// An issue, a check and a queue for every size block but 0 are accepted, and the grant has
+/// all four bytes of the number.
+#[test]
+fn a_grant_for_any_other_size_block_is_issued_and_opens() {
+    let roll = roll_at(1);
+    for block in blocks_but_0() {
+        let issued = roll.issue(&KEY, ROUNDS, 7, block, OVERWRITING);
+        let grant = issued.expect("not size block 0");
+        let [a, b, c, d] = block.to_be_bytes();
+        let plain = plain_with(&[(4, a), (5, b), (6, c), (7, d)]);
+        assert_eq!(deciphered(&KEY, ROUNDS, &grant), plain);
+        let checked = roll.check(&KEY, ROUNDS, &grant, block, OVERWRITING);
+        assert_eq!(checked, accepted(OVERWRITING), "size block {}", block);
+        let mut answers = [LENT; 2];
+        let called = roll.check_queue(&KEY, ROUNDS, &grant, block, READING, &mut answers);
+        assert_eq!((called, answers), (Ok(()), [0, LENT]));
+    }
+}
+
+#[test]
+fn nothing_is_issued_for_size_block_0() {
+    for right in [READING, OVERWRITING] {
+        for (count, figure) in counts_and_figures() {
+            let issued = roll_of(count, figure).issue(&KEY, ROUNDS, 7, 0, right);
+            assert_eq!(issued, Err(Refusal::ZeroBlock));
+        }
+    }
+    for (length, least, most) in [(12, 10, 11), (18, 14, 17), (24, 18, 23)] {
+        let key: Vec<u8> = (1..).take(length).collect();
+        for rounds in least..=most {
+            let issued = roll_at(1).issue(&key, rounds, 200, 0, READING);
+            assert_eq!(number(issued), 14);
+        }
+    }
+}
+
+/// The old grant of contractor 7 with count 1 under KEY and ROUNDS.
+fn old_grant(right: u8) -> Vec<u8> {
+    old_zero_grant(&KEY, ROUNDS, 7, 1, right).expect("an allowed key")
+}
+
+/// Bytes 4 to 7 are the size block.
+#[test]
+fn an_old_grant_has_the_plain_bytes_as_written_by_hand() {
+    for (length, rounds) in [(12, 10), (12, 11), (18, 14), (18, 17), (24, 18), (24, 23)] {
+        let key: Vec<u8> = (1..).take(length).collect();
+        let grant = old_zero_grant(&key, rounds, 200, 0x0203, 1).expect("an allowed key");
+        let plain = [0, 200, 2, 3, 0, 0, 0, 0, 1, 0x47, 0x52, 0x44];
+        assert_eq!(deciphered(&key, rounds, &grant), plain);
+        let read = Grant::from_plain_bytes(&plain).expect("a whole grant");
+        assert_eq!((read.contractor, read.count), (200, 0x0203));
+        assert_eq!((read.block, read.right), (0, 1));
+        assert_eq!(read.enciphered(&key, rounds), Ok(grant));
+    }
+    assert_eq!(old_grant(2), enciphered(&plain_with(&[(6, 0), (7, 0)])));
+}
+
+/// Whoever had it, and whichever the count and the right were: that is not known any more.
+#[test]
+fn an_old_grant_is_made_unless_the_key_or_the_rounds_are_wrong() {
+    for (length, rounds, refused) in [(11, 10, 1), (0, 99, 1), (12, 9, 2), (12, 12, 2)] {
+        let made = old_zero_grant(&KEY[..length], rounds, 7, 1, OVERWRITING);
+        assert_eq!(number(made), refused);
+    }
+    for (contractor, count, right) in [(0, 0, 0), (201, 65_535, 255), (7, 2, 3)] {
+        assert!(old_zero_grant(&KEY, ROUNDS, contractor, count, right).is_ok());
+    }
+}
+
+/// On the roll on which it would open if its size block could be asked for. A grant for
+/// another size block is refused with 14 as well, and neither with 9.
+#[test]
+fn an_old_grant_asked_for_0_is_refused_with_14_and_for_another_with_9() {
+    let roll = roll_at(1);
+    for right in [READING, OVERWRITING] {
+        let old = old_grant(right);
+        for asked in [READING, OVERWRITING] {
+            let check = |grant: &[u8], block| roll.check(&KEY, ROUNDS, grant, block, asked);
+            assert_eq!(check(&old, 0), Err(Refusal::ZeroBlock));
+            for block in blocks_but_0() {
+                assert_eq!(check(&old, block), Err(Refusal::OtherBlock));
+            }
+            assert_eq!(check(&enciphered(&PLAIN), 0), Err(Refusal::ZeroBlock));
+        }
+    }
+}
+
+/// What is asked for is looked at before the grant is: any 12 bytes are refused with 14.
+#[test]
+fn any_bytes_asked_for_0_are_refused_with_14() {
+    let mut generator = Generator::new(56);
+    for _ in 0..20 {
+        let bytes = generator.bytes(12);
+        let check = |block| roll_at(1).check(&KEY, ROUNDS, &bytes, block, READING);
+        assert_eq!([number(check(0)), number(check(1))], [14, 8]);
+    }
+}
+
+/// Nothing is written for 0. For 300, the old grants are answered with 9, and those before
+/// and after them as ever.
+#[test]
+fn a_queue_with_old_grants_is_refused_for_0_and_answers_9_otherwise() {
+    let [reading, overwriting] = [READING, OVERWRITING].map(old_grant);
+    let new = enciphered(&PLAIN);
+    let grants = [&reading[..], &new, &overwriting, &overwriting, &new].concat();
+    let queue = |block, right| {
+        let mut answers = [LENT; 6];
+        let roll = roll_at(1);
+        let called = roll.check_queue(&KEY, ROUNDS, &grants, block, right, &mut answers);
+        (number(called), answers)
+    };
+    for right in [READING, OVERWRITING] {
+        assert_eq!(queue(0, right), (14, [LENT; 6]));
+        assert_eq!(queue(300, right), (0, [9, 0, 9, 9, 0, LENT]));
+        assert_eq!(queue(1, right), (0, [9, 9, 9, 9, 9, LENT]));
+    }
+    assert_eq!(queue(0, 3), (7, [LENT; 6]));
+}
+
+/// Every reason for which a grant is answered, and none: what the grants are has no
+/// bearing on a queue that is asked for 0. For 300 the same queue is accepted.
+#[test]
+fn no_grant_is_looked_at_in_a_queue_for_0() {
+    for reason in [8, 9, 10, 20, 23, 25, 0] {
+        for count in [1, 64] {
+            let reasons = [14, reason];
+            let granted = if reason == 10 { READING } else { OVERWRITING };
+            let grants = grant_of(granted, &reasons).repeat(count);
+            let mut answers = vec![LENT; count];
+            let roll = roll_with(&reasons);
+            let called = roll.check_queue(&KEY, ROUNDS, &grants, 0, 2, &mut answers);
+            assert_eq!((number(called), answers), (14, vec![LENT; count]));
+            let grants = grant_of(granted, &[reason]).repeat(count);
+            let block = asked_block(&[reason]);
+            let mut answers = vec![LENT; count];
+            let called = roll.check_queue(&KEY, ROUNDS, &grants, block, 2, &mut answers);
+            assert_eq!((number(called), answers), (0, vec![reason; count]));
+        }
+    }
+}
+
+/// Calls are drawn and made for contractors 7 and 8. An old grant with the count that 7 has
+/// opens nothing, whatever they are, and the roll is what it would be without it. Meanwhile
+/// 7 is issued grants for size block 1 as the model says.
+#[test]
+fn an_old_grant_never_opens_and_changes_no_entry() {
+    let mut generator = Generator::new(57);
+    let mut member = Member::default();
+    let mut roll = Roll::new();
+    let (mut issued, mut numbers) = (0, Vec::new());
+    for _ in 0..150 {
+        let drawn = Drawn::new(&mut generator, &[7, 7, 8]);
+        drawn.make(&mut roll);
+        if drawn.contractor == 7 {
+            member.make(drawn);
+        }
+        let right = 1 + generator.byte() % 2;
+        let (count, _) = member.entry();
+        let old = old_zero_grant(&KEY, ROUNDS, 7, count, right).expect("an allowed key");
+        for (block, refused) in [(0, 14), (1, 9), (256, 9)] {
+            let checked = number(roll.check(&KEY, ROUNDS, &old, block, right));
+            assert_eq!(checked, refused);
+        }
+        assert_eq!(number(roll.issue(&KEY, ROUNDS, 7, 0, right)), 14);
+        assert_eq!(entry(&roll, 7), member.entry());
+        let new = roll.issue(&KEY, ROUNDS, 7, 1, right);
+        numbers.push(number(new.clone()));
+        assert_eq!(number(new.clone()), member.issue(right));
+        issued += new.map_or(0, |grant| opening_for_1(&roll, &grant, right));
+    }
+    numbers.sort_unstable();
+    numbers.dedup();
+    assert_eq!(numbers, [0, 20, 25]);
+    assert!(issued > 20);
+}
+
+/// 1 if a grant opens for size block 1 and a right, otherwise 0.
+fn opening_for_1(roll: &Roll, grant: &[u8], right: u8) -> usize {
+    usize::from(roll.check(&KEY, ROUNDS, grant, 1, right).is_ok())
 }

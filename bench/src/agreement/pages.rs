@@ -12,7 +12,14 @@ use crate::page::{Page, PAGE_BYTES, PAYLOAD_BYTES, SCRATCH_BYTES};
 
 /// The numbers that the calls answer, with 0 for all that are no refusal, and whether the
 /// scratch is cleared. All of them have to occur, and no other may.
-const SEALING: [(u64, bool); 5] = [(0, true), (1, false), (2, false), (4, false), (12, false)];
+const SEALING: [(u64, bool); 6] = [
+    (0, true),
+    (1, false),
+    (2, false),
+    (4, false),
+    (12, false),
+    (14, false),
+];
 const OPENING: [(u64, bool); 7] = [
     (0, true),
     (1, false),
@@ -177,8 +184,29 @@ fn check_lengths(generator: &mut Generator, seen: &mut Seen) -> Result<(), Strin
             page.bytes.resize(payload_length, 0);
             check_seal(&page, (SCRATCH_BYTES, PAGE_BYTES), seen)?;
         }
+        check_zero(page, sealed, seen)?;
     }
     Ok(())
+}
+
+/// Size block 0: no page of it is sealed, whatever the payload's length, and one that was
+/// sealed when there were such pages opens.
+fn check_zero(mut page: Page, mut sealed: Page, seen: &mut Seen) -> Result<(), String> {
+    page.size_block = 0;
+    for (payload_length, scratch) in [(0, SCRATCH_BYTES), (493, SCRATCH_BYTES), (493, 575)] {
+        page.bytes.resize(payload_length, 0);
+        check_seal(&page, (scratch, PAGE_BYTES), seen)?;
+    }
+    // All bytes of the payload are used, so that a right check is enough.
+    sealed.bytes[..4].fill(0);
+    make_check(&mut sealed)?;
+    let (number, ..) = check_open(&sealed, (SCRATCH_BYTES, PAYLOAD_BYTES), seen)?;
+    same(
+        "a page of size block 0",
+        "its size block",
+        &(number as u32),
+        &0,
+    )
 }
 
 fn check_seal(page: &Page, lent: Lent, seen: &mut Seen) -> Result<(), String> {

@@ -96,15 +96,17 @@ fn check_check(key: &[u8], rounds: u32, bytes: &[u8], tally: &mut Tally) -> Resu
     for roll_length in [0, 2, 400, 599, 600, 601] {
         for grant_length in [0, 11, 12, 13] {
             for right in [0, 1, 2, 3, 257, u32::MAX] {
-                let question = Question {
-                    key: key.to_vec(),
-                    rounds,
-                    roll: bytes[..roll_length].to_vec(),
-                    grants: bytes[620..620 + grant_length].to_vec(),
-                    size_block: 1,
-                    right,
-                };
-                check_question(&question, tally)?;
+                for size_block in [0, 1] {
+                    let question = Question {
+                        key: key.to_vec(),
+                        rounds,
+                        roll: bytes[..roll_length].to_vec(),
+                        grants: bytes[620..620 + grant_length].to_vec(),
+                        size_block,
+                        right,
+                    };
+                    check_question(&question, tally)?;
+                }
             }
         }
     }
@@ -115,15 +117,17 @@ fn check_queue(key: &[u8], rounds: u32, bytes: &[u8], tally: &mut Tally) -> Resu
     for roll_length in [0, 400, 599, 600, 601] {
         for grants_length in [0, 11, 12, 13, 767, 768, 769, 780] {
             for right in [0, 1, 2, 3, u32::MAX] {
-                let question = Question {
-                    key: key.to_vec(),
-                    rounds,
-                    roll: bytes[..roll_length].to_vec(),
-                    grants: bytes[620..620 + grants_length].to_vec(),
-                    size_block: 1,
-                    right,
-                };
-                check_queue_outputs(&question, tally)?;
+                for size_block in [0, 1] {
+                    let question = Question {
+                        key: key.to_vec(),
+                        rounds,
+                        roll: bytes[..roll_length].to_vec(),
+                        grants: bytes[620..620 + grants_length].to_vec(),
+                        size_block,
+                        right,
+                    };
+                    check_queue_outputs(&question, tally)?;
+                }
             }
         }
     }
@@ -143,11 +147,12 @@ fn check_queue_outputs(question: &Question, tally: &mut Tally) -> Result<(), Str
 /// What is asked, by its lengths and numbers.
 fn described(call: &str, question: &Question) -> String {
     format!(
-        "{call}: key of {} bytes, {} rounds, roll of {}, grants of {}, right {}",
+        "{call}: key of {} bytes, {} rounds, roll of {}, grants of {}, size block {}, right {}",
         question.key.len(),
         question.rounds,
         question.roll.len(),
         question.grants.len(),
+        question.size_block,
         question.right
     )
 }

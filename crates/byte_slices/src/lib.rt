@@ -5,7 +5,7 @@ ghost use lib.ListN.{length, drop, replicate};
 ghost use Rattle.byte_slices.specs.Slices.{allZero, sameBytes};
 use basics::both;
 
-// Whether two slices have the same bytes. Every byte is looked at, wherever the first difference is.
+// Whether two slices have the same bytes. Where they are of one length, every byte is looked at, wherever the first difference is.
 pub fn same(a: &[u8], b: &[u8]) -> bool
     ensures { λ r. ⌜ r ≡ sameBytes (now (a .entry)) (now (b .entry)) ⌝ }
 {

@@ -11,7 +11,9 @@ use Rattle.refusal.specs.Tries.{first, written, answered, NoneHolds}
 use Rattle.refusal.proofs.Tries.{none-given}
 use Rattle.refusal.proofs.Ladder.{all-pass, ordered}
 use Rattle.refusal.proofs.Answers.{starts}
+use Rattle.basics.specs.Bytes.{AreBytes}
 use Rattle.cipher.specs.Cipher.{cipherBlock}
+use Rattle.roll.specs.declared.Roll.{Roll}
 use Rattle.roll.specs.Roll.{emptyRoll, countOf, figureOf, inStanding, withEntry}
 use Rattle.roll_changes.specs.Changes.{enteredRoll}
 use Rattle.roll_bytes.specs.RollBytes.{countsOf, rollLength, rollOf, countsBytes, rollBytes}
@@ -21,12 +23,13 @@ use Rattle.roll_bytes.proofs.Claims.{bytes-tell-roll}
 use Rattle.histories.specs.Histories.{Change, enter, changed, rollAfter, Withdrawn}
 use Rattle.histories.proofs.Calls.{zeros-small, empty-roll}
 use Rattle.grant.specs.declared.Verdict.the-variants.{Opens, Refused}
+use Rattle.size_blocks.specs.SizeBlocks.{isSizeBlock}
 use Rattle.rights.specs.Rights.{isRight}
 use Rattle.rights.proofs.Rights.{within-two}
 use Rattle.issuing.specs.Issuing.{issueTries, issuedGrant}
 use Rattle.checking.specs.Checking.{checkNumber}
-use Rattle.revocation.specs.Claims.{Issued, OpensNothing, IssuedOpens, RevokedNeverOpens, RevokedInTwoRooms, roll7, calls7}
-use Rattle.revocation.proofs.Claims.{issued-opens, revoked-never-opens, revoked-in-two-rooms, withdrawn-7}
+use Rattle.revocation.specs.Claims.{Issued, OpensNothing, IssuedOpens, EarlierNeverOpens, RevokedNeverOpens, RevokedInTwoRooms, roll7, calls7}
+use Rattle.revocation.proofs.Claims.{issued-opens, earlier-never-opens, revoked-never-opens, revoked-in-two-rooms, withdrawn-7}
 use Rattle.check_call.specs.CheckCall.{callCode}
 use Rattle.roll_calls.specs.RollCalls.{enterCallRoll, emptyCallTries, enterCallTries, withdrawCallTries, changeCallTries}
 use Rattle.issue_call.specs.IssueCall.{issueCallTries, issueCallNumber, issueCallOutput}
@@ -34,7 +37,7 @@ use Rattle.call_claims.specs.CallHistories.{called, bytesAfter, CallIssu
 use Rattle.call_claims.specs.Claims.{CodesTellVerdicts, ChecksNameContractors, CallInOrder, RollCallsInOrder, CallOpensExactlyWhen}
 use Rattle.call_claims.specs.Claims.{CallNeverZero, CallIsCheck}
 use Rattle.call_claims.specs.Claims.{Holds, BytesFollowRoll, CallChecks, CallIssuedOpens, CallOverwritingOpensReading, CallTenOnlyForOverwriting}
-use Rattle.call_claims.specs.Claims.{bytesWith7, CallAnswersTo7, Refuses, CallsRevoke, CallsRevokeInTwoRooms, CallsRevokeSomething}
+use Rattle.call_claims.specs.Claims.{bytesWith7, CallAnswersTo7, Refuses, CallsRevokeEarlier, CallsRevoke, CallsRevokeInTwoRooms, CallsRevokeSomething}
 use Rattle.call_claims.proofs.Codes as codes
 use Rattle.call_claims.proofs.Opens.{checked-contractor, in-order, is-check, call-opening, call-accepted, never-zero, call-refuses}
 use Rattle.call_claims.proofs.Opens.{call-given, call-ten, call-refused, call-looks}
@@ -82,6 +85,13 @@ pub bytes-follow-roll : BytesFollowRoll
 unfolding BytesFollowRoll
 bytes-follow-roll bytes h e hs = after-holds hs bytes h e
 
+-- where a grant opens nothing on the roll after some calls, gordzila_check refuses it on the bytes after them
+grant-refused : (key : List ℕ) (rounds : ℕ) (roll : List ℕ) → AreBytes roll → length roll ≡ rollLength → (grant : List ℕ) (hs : List Change)
+    → OpensNothing key rounds (rollAfter hs (rollOf roll)) grant → Refuses key rounds (bytesAfter hs roll) grant
+grant-refused key rounds roll small long grant hs n b r =
+    call-refuses key rounds (bytesAfter hs roll) grant b r
+    (λ e. n b r (ap (λ (x : Roll). checkNumber key rounds x grant b r) (sym (after-holds hs roll small long .read)) ∙ e))
+
 -- ---- a grant that gordzila_issue wrote
 module _ (key : List ℕ) (rounds : ℕ) (roll : List ℕ) (contractor block right : ℕ) (out : List ℕ)
     (i : CallIssued key rounds roll contractor block right out) where
@@ -106,26 +116,28 @@ module _ (key : List ℕ) (rounds : ℕ) (roll : List ℕ) (contractor block rig
   abbrev g : List ℕ
   g = issuedGrant key rounds (rollOf roll) contractor block right
 
-  pub as-issued : (r : ℕ) → callCode key rounds roll (grantGiven key rounds roll contractor block right out) block r ≡ callCode key rounds roll g block r
-  as-issued r = ap (λ (g : List ℕ). callCode key rounds roll g block r) given
+  pub as-issued : (b r : ℕ) → callCode key rounds roll (grantGiven key rounds roll contractor block right out) b r ≡ callCode key rounds roll g b r
+  as-issued b r = ap (λ (g : List ℕ). callCode key rounds roll g b r) given
 
   pub checks : CallChecks key rounds roll contractor block right out
   unfolding IssuedOpens
   checks =
       let w = issued-opens key rounds (rollOf roll) contractor block right out issued in
       record {
-        opens = as-issued right ∙ call-given key rounds roll g block right long contractor (w .opens);
-        looks = λ e. as-issued 1 ∙ call-given key rounds roll g block 1 long contractor (w .looks e);
-        only-reads = λ e. as-issued 2 ∙ call-refused key rounds roll g block 2 long 10 (lit< tt) (w .only-reads e);
-        no-right = λ asked q. as-issued asked ∙ call-refused key rounds roll g block asked long 7 (lit< tt) (w .no-right asked q);
+        opens = as-issued block right ∙ call-given key rounds roll g block right long contractor (w .opens);
+        looks = λ e. as-issued block 1 ∙ call-given key rounds roll g block 1 long contractor (w .looks e);
+        only-reads = λ e. as-issued block 2 ∙ call-refused key rounds roll g block 2 long 10 (lit< tt) (w .only-reads e);
+        no-right = λ asked q. as-issued block asked ∙ call-refused key rounds roll g block asked long 7 (lit< tt) (w .no-right asked q);
+        other-block = λ b asked d z q. as-issued b asked ∙ call-refused key rounds roll g b asked long 9 (lit< tt) (w .other-block b asked d z q);
+        block-zero = λ asked q. as-issued 0 asked ∙ call-refused key rounds roll g 0 asked long 14 (lit< tt) (w .block-zero asked q);
       }
 
   -- where it opens nothing on the roll after some calls, gordzila_check refuses it on the bytes after them
   refused : (hs : List Change) → OpensNothing key rounds (rollAfter hs (rollOf roll)) (issuedGrant key rounds (rollOf roll) contractor block right)
       → Refuses key rounds (bytesAfter hs roll) (grantGiven key rounds roll contractor block right out)
-  refused hs n b r =
-      call-refuses key rounds (bytesAfter hs roll) (grantGiven key rounds roll contractor block right out) b r
-      (λ e. n b r ((λ j. checkNumber key rounds (sym (after-holds hs roll (i .roll-bytes) long .read) j) (sym given j) b r) ∙ e))
+  refused hs n =
+      subst⁻¹ (Refuses key rounds (bytesAfter hs roll)) given
+      (grant-refused key rounds roll (i .roll-bytes) long (issuedGrant key rounds (rollOf roll) contractor block right) hs n)
 
 pub call-issued-opens : CallIssuedOpens
 unfolding CallIssuedOpens
@@ -156,14 +168,14 @@ holds-7 =
 
 -- contractor 7 gets a grant with either right
 pub issued-7 : (right : ℕ) → isRight right ≡ true → CallIssued (replicate 12 0) 10 bytesWith7 7 300 right (replicate 12 0)
-unfolding bytesAfter called enterCallRoll first written answered rollOf countsOf rollBytes countsBytes emptyRoll countOf figureOf inStanding withEntry
-    enteredRoll
+unfolding bytesAfter called enterCallRoll first isSizeBlock written answered rollOf countsOf rollBytes countsBytes emptyRoll countOf figureOf inStanding
+    withEntry enteredRoll
 issued-7 right q = record {
   key-bytes = zeros-small (lit< tt) 12;
   roll-bytes = holds-7 .small;
   block-small = lit< tt;
   number = none-given (issueCallTries (replicate 12 0) 10 bytesWith7 7 300 right (replicate 12 0))
-      (refl, (refl, (refl, (refl, (refl, (q, (refl, (within-two right q, tt))))))));
+      (refl, (refl, (refl, (refl, (refl, (q, (refl, (refl, (within-two right q, tt)))))))));
 }
 
 pub call-answers-to-7 : CallAnswersTo7
@@ -172,6 +184,12 @@ call-answers-to-7 =
     let overwriting = checks (replicate 12 0) 10 bytesWith7 7 300 2 (replicate 12 0) (issued-7 2 refl) in
     let reading = checks (replicate 12 0) 10 bytesWith7 7 300 1 (replicate 12 0) (issued-7 1 refl) in
     (overwriting .looks refl, (overwriting .opens, (reading .opens, reading .only-reads refl)))
+
+pub calls-revoke-earlier : CallsRevokeEarlier
+unfolding CallsRevokeEarlier EarlierNeverOpens
+calls-revoke-earlier key rounds roll small long contractor grant g hs w =
+    grant-refused key rounds roll small long grant hs
+    (earlier-never-opens key rounds (rollOf roll) contractor grant g (is-roll roll small long) hs (withdrawn-read w small long))
 
 pub calls-revoke : CallsRevoke
 unfolding CallsRevoke RevokedNeverOpens

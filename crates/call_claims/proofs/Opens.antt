@@ -9,7 +9,7 @@ use lib.ListN.{length}
 use borrow.Author.Tests.{eqb-true, eqb-false, eq-eqb, leb-true, leb-false}
 use Rattle.basics.specs.Bytes.{AreBytes}
 use Rattle.basics.proofs.Tests.{and-first, and-second}
-use Rattle.refusal.specs.Tries.{first, answered}
+use Rattle.refusal.specs.Tries.{first, answered, NoneHolds}
 use Rattle.refusal.proofs.Tries.{none-given}
 use Rattle.refusal.proofs.Ladder.{all-pass, ordered, first-small}
 use Rattle.refusal.proofs.Answers.{answer-refused, answer-done}
@@ -18,11 +18,12 @@ use Rattle.roll_bytes.specs.RollBytes.{rollLength, rollOf}
 use Rattle.roll.proofs.Contractors.{a-contractor}
 use Rattle.grant.specs.Grants.{contractorIn}
 use Rattle.judging.specs.Judging.{inputTries, plainTries}
+use Rattle.judging.proofs.Passed.{InputPassed, input-passed, input-passes}
 use Rattle.checking.specs.Checking.{openedGrant, entryNow, checkTries, checkNumber, checkContractor, checkRight}
 use Rattle.rights.proofs.Rights.{right-least}
 use Rattle.grant.proofs.Tests.{a-grant}
 use Rattle.revocation.specs.Claims.{Opening, Accepted, ReadingGrant, OpensExactlyWhen, OverwritingOpensReading}
-use Rattle.revocation.proofs.Checks.{not-refused}
+use Rattle.revocation.proofs.Checks.{passed, not-refused}
 use Rattle.revocation.proofs.Looks.{ten}
 use Rattle.revocation.proofs.Claims.{opens-exactly-when, overwriting-opens-reading}
 use Rattle.check_call.specs.CheckCall.{callTries, callCode}
@@ -63,7 +64,7 @@ unfolding checkContractor
 checked-contractor key rounds roll grant block right e =
     let p = openedGrant key rounds grant in
     let ts = checkTries key rounds roll grant block right in
-    let c = a-contractor (contractorIn p) (a-grant p (all-pass ts refl e .1 .1 .1 .1 .0) .contractor) in
+    let c = a-contractor (contractorIn p) (a-grant p (passed key rounds roll grant block right e .1 .whole) .contractor) in
     let z = answer-done ts (contractorIn p) 0 e in
     (subst⁻¹ (λ (n : ℕ). 1 ≤ n) (sym z) (c .least), subst⁻¹ (λ (n : ℕ). n ≤ 200) (sym z) (c .most))
 
@@ -72,10 +73,19 @@ module _ (key : List ℕ) (rounds : ℕ) (roll grant : List ℕ) (block right : 
   unfolding callCode
   in-order = record { tries = ordered (callTries key rounds roll grant block right) refl; code = refl }
 
+  -- what passed, where no reason holds
+  pub tried : first (callTries key rounds roll grant block right) ≡ 0
+      → InputPassed (length key) rounds (eqb (length roll) rollLength && eqb (length grant) 12) block right
+      × NoneHolds (plainTries (openedGrant key rounds grant) (entryNow key rounds (rollOf roll) grant) block right)
+  tried e =
+      input-passed (length key) rounds (eqb (length roll) rollLength && eqb (length grant) 12) block right
+      (plainTries (openedGrant key rounds grant) (entryNow key rounds (rollOf roll) grant) block right)
+      (all-pass (callTries key rounds roll grant block right) refl e)
+
   -- the number, where the test of the roll's length gives b
   numbered-as : Bool → ℕ
   numbered-as b =
-      first (inputTries (length key) rounds (b && eqb (length grant) 12) right
+      first (inputTries (length key) rounds (b && eqb (length grant) 12) block right
       ++ plainTries (openedGrant key rounds grant) (entryNow key rounds (rollOf roll) grant) block right)
 
   pub call-number : length roll ≡ rollLength
@@ -96,7 +106,7 @@ module _ (key : List ℕ) (rounds : ℕ) (roll grant : List ℕ) (block right : 
       let p = openedGrant key rounds grant in
       let ts = callTries key rounds roll grant block right in
       answer-some (first ts) (1000 * right + contractorIn p)
-      (λ e. omega (arith, a-contractor (contractorIn p) (a-grant p (all-pass ts refl e .1 .1 .1 .1 .0) .contractor) .least))
+      (λ e. omega (arith, a-contractor (contractorIn p) (a-grant p (tried e .1 .0) .contractor) .least))
 
   -- a number of 1,000 or more: the check was not refused
   pub call-passed : 1000 ≤ callCode key rounds roll grant block right → (length roll ≡ rollLength)
@@ -104,11 +114,20 @@ module _ (key : List ℕ) (rounds : ℕ) (roll grant : List ℕ) (block right : 
   unfolding callCode
   call-passed h =
       let ts = callTries key rounds roll grant block right in
-      let t = all-pass ts refl (accepted-above (first ts) _ (first-small 1000 ts refl) h) in
+      let t = tried (accepted-above (first ts) _ (first-small 1000 ts refl) h) in
+      let i = t .0 in
       let l = eqb (length roll) rollLength in
       let g = eqb (length grant) 12 in (
-        eqb-true (length roll) rollLength (and-first l g (t .1 .1 .0)),
-        none-given (checkTries key rounds (rollOf roll) grant block right) (t .0, (t .1 .0, (and-second l g (t .1 .1 .0), t .1 .1 .1))),
+        eqb-true (length roll) rollLength (and-first l g (i .long)),
+        none-given (checkTries key rounds (rollOf roll) grant block right) (input-passes (length key) rounds g block right
+            (plainTries (openedGrant key rounds grant) (entryNow key rounds (rollOf roll) grant) block right)
+            record {
+              key-length = i .key-length;
+              round-count = i .round-count;
+              long = and-second l g (i .long);
+              asked = i .asked;
+              some-block = i .some-block;
+            } (t .1)),
       )
 
   -- so where the check is refused, the call's number is a refusal's
@@ -138,7 +157,7 @@ module _ (key : List ℕ) (rounds : ℕ) (roll grant : List ℕ) (block right : 
       let lengths = eqb (length roll) rollLength && eqb (length grant) 12 in
       ten key rounds lengths grant (entryNow key rounds (rollOf roll) grant) block right
       (refused-with (first ts) (1000 * right + contractorIn (openedGrant key rounds grant)) 10
-      (λ z. omega (arith, right-least right (all-pass ts refl z .1 .1 .1 .0))) e)
+      (λ z. omega (arith, right-least right (tried z .0 .asked))) e)
 
   -- a refusal of the check is the call's
   pub call-refused : length roll ≡ rollLength → (n : ℕ) → 0 < n → checkNumber key rounds (rollOf roll) grant block right ≡ n

@@ -1,6 +1,6 @@
 -- What is claimed of the C calls: of the check's number, and of a store through lists of calls. A term of each type stands in
 -- proofs/Claims.antt.
-use mathlib.Core.Bool.{false}
+use mathlib.Core.Bool.{true, false}
 use mathlib.Core.Logic.{_⊎_}
 use mathlib.Core.Path.{_≡_}
 use mathlib.Core.List.{List, [], _∷_}
@@ -18,7 +18,7 @@ use Rattle.grant.specs.declared.Verdict.the-variants.{Opens, Refused}
 use Rattle.rights.specs.Rights.{isRight}
 use Rattle.grant.specs.Grants.{contractorIn, verdictNumber, verdictContractor}
 use Rattle.checking.specs.Checking.{openedGrant, checkNumber, checkContractor, checkRight}
-use Rattle.revocation.specs.Claims.{Opening, ReadingGrant, calls7}
+use Rattle.revocation.specs.Claims.{Opening, ReadingGrant, Earlier, calls7}
 use Rattle.roll_calls.specs.RollCalls.{emptyCallTries, enterCallTries, withdrawCallTries, changeCallTries}
 use Rattle.issue_call.specs.IssueCall.{issueCallTries}
 use Rattle.check_call.specs.CheckCall.{verdictCode, callTries, callCode}
@@ -71,7 +71,7 @@ CallOpensExactlyWhen = (key : List ℕ) → AreBytes key → (rounds : ℕ) (rol
     × (length roll ≡ rollLength → (o : Opening key rounds (rollOf roll) grant block right)
     → callCode key rounds roll grant block right ≡ 1000 * right + o .contractor)
 
--- every answer of the C call is 1 or more: a refusal is a number from 1 to 999, never 0
+-- every answer of the C call is 1 or more: none is 0
 unfoldable pub CallNeverZero : Type 0
 CallNeverZero = (key : List ℕ) (rounds : ℕ) (roll grant : List ℕ) (block right : ℕ) → 1 ≤ callCode key rounds roll grant block right
 
@@ -100,13 +100,18 @@ BytesFollowRoll = (bytes : List ℕ) → AreBytes bytes → length bytes ≡ rol
     → Holds (bytesAfter hs bytes) (rollAfter hs (rollOf bytes))
 
 -- a grant that was issued opens on the same roll: the answer is 1,000 times its right plus the contractor. A grant to overwrite opens for reading
--- too, answering reading, and one to read is refused with 10 for overwriting
+-- too, answering reading, and one to read is refused with 10 for overwriting. For what is no right it is 7; for another block 9, with either right, and
+-- 14 where that block is 0
 pub record CallChecks (key : List ℕ) (rounds : ℕ) (roll : List ℕ) (contractor block right : ℕ) (out : List ℕ) : Type 0 where
   pub opens : callCode key rounds roll (grantGiven key rounds roll contractor block right out) block right ≡ 1000 * right + contractor
   pub looks : right ≡ 2 → callCode key rounds roll (grantGiven key rounds roll contractor block right out) block 1 ≡ 1000 + contractor
   pub only-reads : right ≡ 1 → callCode key rounds roll (grantGiven key rounds roll contractor block right out) block 2 ≡ 10
   pub no-right : (asked : ℕ) → isRight asked ≡ false
       → callCode key rounds roll (grantGiven key rounds roll contractor block right out) block asked ≡ 7
+  pub other-block : (b asked : ℕ) → (b ≡ block → ⊥) → (b ≡ 0 → ⊥) → isRight asked ≡ true
+      → callCode key rounds roll (grantGiven key rounds roll contractor block right out) b asked ≡ 9
+  pub block-zero : (asked : ℕ) → isRight asked ≡ true
+      → callCode key rounds roll (grantGiven key rounds roll contractor block right out) 0 asked ≡ 14
 
 unfoldable pub CallIssuedOpens : Type 0
 CallIssuedOpens = (key : List ℕ) (rounds : ℕ) (roll : List ℕ) (contractor block right : ℕ) (out : List ℕ)
@@ -141,8 +146,14 @@ abbrev pub Refuses : List ℕ → ℕ → List ℕ → List ℕ → Type 0
 Refuses key rounds roll grant = (block right : ℕ)
     → (1 ≤ callCode key rounds roll grant block right) × (callCode key rounds roll grant block right ≤ 999)
 
--- whatever is entered, withdrawn and changed: once a gordzila_withdraw of its contractor has answered 0, the grant is refused, under the key and round
--- count that it was issued with
+-- whatever is entered, withdrawn and changed: once a gordzila_withdraw of its contractor has answered 0, a grant from before now is refused, for whatever
+-- size block and with whatever right it was issued, under that key and round count
+unfoldable pub CallsRevokeEarlier : Type 0
+CallsRevokeEarlier = (key : List ℕ) (rounds : ℕ) (roll : List ℕ) → AreBytes roll → length roll ≡ rollLength → (contractor : ℕ) (grant : List ℕ)
+    → Earlier key rounds (rollOf roll) contractor grant
+    → (hs : List Change) → CallWithdrawn contractor hs roll → Refuses key rounds (bytesAfter hs roll) grant
+
+-- and so for what gordzila_issue wrote, where it answered 0
 unfoldable pub CallsRevoke : Type 0
 CallsRevoke = (key : List ℕ) (rounds : ℕ) (roll : List ℕ) (contractor block right : ℕ) (out : List ℕ)
     → CallIssued key rounds roll contractor block right out

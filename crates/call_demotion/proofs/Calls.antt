@@ -4,7 +4,7 @@ use mathlib.Core.Bool.{Bool, _&&_}
 use mathlib.Core.List.{List, [], _∷_, _++_}
 use Prim.Native.Nat.{ℕ, _+_, _*_, _≤_}
 use native.Mathlib.Omega.{arith}
-use lib.Dec.{eqb, leb, lit<}
+use lib.Dec.{eqb, lit<}
 use lib.ListN.{length, getD}
 use borrow.Author.Tests.{eqb-true, eq-eqb}
 use Rattle.basics.specs.Bytes.{AreBytes}
@@ -14,10 +14,9 @@ use Rattle.refusal.proofs.Tries.{none-given}
 use Rattle.refusal.proofs.Ladder.{all-pass}
 use Rattle.refusal.proofs.Given.{passed-before}
 use Rattle.settings.specs.Settings.{settingsTries}
-use Rattle.rights.specs.Rights.{isRight}
-use Rattle.rights.proofs.Rights.{right-least, within-reading}
+use Rattle.rights.proofs.Rights.{right-least}
 use Rattle.roll.specs.declared.Roll.{Roll}
-use Rattle.roll.specs.Roll.{isContractor, countOf, figureOf, entryOf, inStanding}
+use Rattle.roll.specs.Roll.{countOf, figureOf, entryOf}
 use Rattle.roll_changes.specs.Changes.{changeTries, changeNumber, changedRoll}
 use Rattle.roll_bytes.specs.RollBytes.{rollLength, rollOf, rollTries}
 use Rattle.histories.specs.Histories.{Change, change, changed, rollAfter, Withdrawn, Raised, Spares, IsRoll}
@@ -28,16 +27,18 @@ use Rattle.cipher.specs.Cipher.{cipherBlock}
 use Rattle.grant.specs.Grants.{plainGrant, contractorIn}
 use Rattle.issuing.specs.Issuing.{wantedTries, issueTries, issueNumber, issuedGrant}
 use Rattle.judging.specs.Judging.{inputTries}
+use Rattle.judging.proofs.Passed.{input-passed}
 use Rattle.checking.specs.Checking.{openedGrant, checkNumber}
 use Rattle.revocation.specs.Claims.{SameCheck}
 use Rattle.demotion.specs.Claims.{NoOverwriting, Above, IssueAbove}
-use Rattle.demotion.proofs.Demoted.{never-overwrites, above, same-count, same-reading, raises, twenty-five, is-above, issue-twenty-five, issue-is-above}
+use Rattle.demotion.proofs.Demoted.{same-issue, never-overwrites, above, same-count, same-reading, raises}
+use Rattle.demotion.proofs.Demoted.{twenty-five, is-above, issue-twenty-five, issue-is-above}
 use Rattle.check_call.specs.CheckCall.{callTries, callCode}
 use Rattle.issue_call.specs.IssueCall.{issueCallTries, issueCallNumber, issueCallOutput}
 use Rattle.roll_calls.specs.RollCalls.{changeCallTries, changeCallNumber, changeCallRoll}
 use Rattle.call_claims.specs.CallHistories.{called, bytesAfter, CallWithdrawn, CallRaised}
 use Rattle.call_claims.specs.Claims.{Holds}
-use Rattle.call_claims.proofs.Opens.{refused-with, call-number, is-check, call-passed, call-refuses, call-refused}
+use Rattle.call_claims.proofs.Opens.{refused-with, tried, call-number, is-check, call-passed, call-refuses, call-refused}
 use Rattle.call_claims.proofs.Stored.{is-roll, passes-roll, call-holds, after-holds, withdrawn-called, raised-called}
 use Rattle.queue_claims.proofs.Bytes.{answers}
 use Rattle.queue_claims.proofs.Calls.{same-queue, roll-long}
@@ -85,17 +86,21 @@ same-code key rounds roll other grant block right l m s =
     ∙ (λ j. answered (s .number j) (1000 * s .answers-right j + s .answers-contractor j) (s .number j))
     ∙ sym (is-check key rounds roll grant block right l)
 
+-- on a roll's bytes an issue has the number of one on the roll that is read
+pub issue-read : (key : List ℕ) (rounds : ℕ) (roll : List ℕ) (c block right : ℕ) (out : List ℕ) → length roll ≡ rollLength
+    → issueCallNumber key rounds roll c block right out ≡ issueNumber key rounds (rollOf roll) c block right out
+unfolding first
+issue-read key rounds roll c block right out l =
+    ap (λ (b : Bool). first ((settingsTries (length key) rounds ++ ((3 unless b) ∷ [])) ++ wantedTries (length out) c block right (entryOf (rollOf roll) c)))
+    (eq-eqb (length roll) rollLength l)
+
 -- an issue for reading, where the contractor's count is the same
 same-number : (key : List ℕ) (rounds : ℕ) (roll other : List ℕ) (c block : ℕ) (out : List ℕ)
     → length roll ≡ rollLength → length other ≡ rollLength → countOf (rollOf other) c ≡ countOf (rollOf roll) c
     → issueCallNumber key rounds other c block 1 out ≡ issueCallNumber key rounds roll c block 1 out
 same-number key rounds roll other c block out l m e =
-    let number : Bool → ℕ → Bool → ℕ =
-    λ a n b. first ((settingsTries (length key) rounds ++ ((3 unless a) ∷ []))
-    ++ ((4 unless leb 12 (length out)) ∷ (6 unless isContractor c) ∷ (7 unless isRight 1) ∷ (20 unless inStanding n) ∷ (25 unless b) ∷ [])) in
-    let a = eq-eqb (length other) rollLength m ∙ sym (eq-eqb (length roll) rollLength l) in
-    let b = within-reading (figureOf (rollOf other) c) ∙ sym (within-reading (figureOf (rollOf roll) c)) in
-    λ j. number (a j) (e j) (b j)
+    issue-read key rounds other c block 1 out m ∙ same-issue key rounds (rollOf roll) (rollOf other) c block out e
+    ∙ sym (issue-read key rounds roll c block 1 out l)
 
 same-bytes : (key : List ℕ) (rounds : ℕ) (roll other : List ℕ) (c block : ℕ) (out : List ℕ)
     → length roll ≡ rollLength → length other ≡ rollLength → countOf (rollOf other) c ≡ countOf (rollOf roll) c
@@ -202,30 +207,24 @@ module _ (key : List ℕ) (rounds : ℕ) (roll grant : List ℕ) (block right : 
   call-twenty-five e =
       let ts = callTries key rounds roll grant block right in
       let x = 1000 * right + contractorIn (openedGrant key rounds grant) in
-      let n = refused-with (first ts) x 25 (λ z. omega (arith, right-least right (all-pass ts refl z .1 .1 .1 .0))) e in
+      let n = refused-with (first ts) x 25 (λ z. omega (arith, right-least right (tried key rounds roll grant block right z .0 .asked))) e in
       let lengths = eqb (length roll) rollLength && eqb (length grant) 12 in
-      let past = passed-before 25 (inputTries (length key) rounds lengths right) _ refl n in
-      let l = eqb-true _ _ (and-first (eqb (length roll) rollLength) (eqb (length grant) 12) (past .1 .1 .0)) in
+      let past = passed-before 25 (inputTries (length key) rounds lengths block right) _ refl n in
+      let long = input-passed (length key) rounds lengths block right [] past .0 .long in
+      let l = eqb-true _ _ (and-first (eqb (length roll) rollLength) (eqb (length grant) 12) long) in
       (l, twenty-five key rounds (rollOf roll) grant block right (sym (call-number key rounds roll grant block right l) ∙ n))
 
   pub call-is-above : length roll ≡ rollLength → Above key rounds (rollOf roll) grant block right → callCode key rounds roll grant block right ≡ 25
   call-is-above l a = call-refused key rounds roll grant block right l 25 (lit< tt) (is-above key rounds (rollOf roll) grant block right a)
 
 module _ (key : List ℕ) (rounds : ℕ) (roll : List ℕ) (c block right : ℕ) (out : List ℕ) where
-  -- on a roll's bytes an issue has the number of one on the roll that is read
-  pub issue-read : length roll ≡ rollLength → issueCallNumber key rounds roll c block right out ≡ issueNumber key rounds (rollOf roll) c block right out
-  unfolding first
-  issue-read l =
-      ap (λ (b : Bool). first ((settingsTries (length key) rounds ++ ((3 unless b) ∷ [])) ++ wantedTries (length out) c right (entryOf (rollOf roll) c)))
-      (eq-eqb (length roll) rollLength l)
-
   pub call-issue-twenty-five : issueCallNumber key rounds roll c block right out ≡ 25
       → (length roll ≡ rollLength) × IssueAbove key rounds (rollOf roll) c block right out
   call-issue-twenty-five e =
       let past = passed-before 25 (settingsTries (length key) rounds ++ rollTries (length roll)) _ refl e in
       let l = eqb-true (length roll) rollLength (past .1 .1 .0) in
-      (l, issue-twenty-five key rounds (rollOf roll) c block right out (sym (issue-read l) ∙ e))
+      (l, issue-twenty-five key rounds (rollOf roll) c block right out (sym (issue-read key rounds roll c block right out l) ∙ e))
 
   pub call-issue-is-above : length roll ≡ rollLength → IssueAbove key rounds (rollOf roll) c block right out
       → issueCallNumber key rounds roll c block right out ≡ 25
-  call-issue-is-above l a = issue-read l ∙ issue-is-above key rounds (rollOf roll) c block right out a
+  call-issue-is-above l a = issue-read key rounds roll c block right out l ∙ issue-is-above key rounds (rollOf roll) c block right out a

@@ -10,6 +10,7 @@ use lib.Seq.{take-all}
 use borrow.Author.Tests.{eq-eqb}
 use Rattle.refusal.specs.Tries.{first, written, answered}
 use Rattle.refusal.proofs.Tries.{none-given}
+use Rattle.size_blocks.proofs.SizeBlocks.{is-size-block}
 use Rattle.rights.specs.Rights.{isRight}
 use Rattle.roll.specs.declared.Roll.{Roll}
 use Rattle.roll.specs.Roll.{emptyRoll, countOf, figureOf, inStanding, withEntry}
@@ -159,7 +160,8 @@ alone roll long right code q e =
     let out : List ℕ = 0xFF ∷ [] in
     let l = ap₂ (λ (a : Bool) (n : ℕ). a && queueLength n) (eq-eqb (length roll) rollLength long) twelve-7 in
     let room = ap (λ (n : ℕ). leb (grantsIn n) 1) twelve-7 in
-    let z = none-given (callQueueTries key 10 roll grantTo7 right out) (refl, (refl, (l, (room, (q, tt))))) in
+    let some = is-size-block 300 (λ e. omega (arith, e)) in
+    let z = none-given (callQueueTries key 10 roll grantTo7 300 right out) (refl, (refl, (l, (room, (q, (some, tt)))))) in
     let h : 0 < grantsIn (length grantTo7) = omega (arith, ap grantsIn twelve-7) in
     call-answers key 10 roll grantTo7 300 right out z .each 0 h
     ∙ ap asByte (ap (λ (g : List ℕ). callCode key 10 roll g 300 right) (take-all 12 grantTo7 (omega (arith, twelve-7))) ∙ e)

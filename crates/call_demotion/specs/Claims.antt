@@ -41,7 +41,7 @@ CallsLeaveOthers = (roll : List ℕ) → AreBytes roll → length roll ≡ rollL
 -- ---- no overwriting in a queue
 -- on a roll no grant of a contractor's has in a queue that is asked for overwriting a byte of 0, wherever it stands and whatever stands around it
 abbrev pub QueuesNoOverwriting : Roll → ℕ → Type 0
-QueuesNoOverwriting roll c = (key : List ℕ) (rounds : ℕ) (grants : List ℕ) (block : ℕ) (out : List ℕ) → queueNumber key rounds grants 2 out ≡ 0
+QueuesNoOverwriting roll c = (key : List ℕ) (rounds : ℕ) (grants : List ℕ) (block : ℕ) (out : List ℕ) → queueNumber key rounds grants block 2 out ≡ 0
     → (i : ℕ) → i < grantsIn (length grants) → contractorIn (openedGrant key rounds (grantAt grants i)) ≡ c
     → getD (queueOutput key rounds roll grants block 2 out) i 0 ≡ 0 → ⊥
 
@@ -56,7 +56,7 @@ QueueDemoted = (roll : Roll) → IsRoll roll → (c : ℕ) → changeNumber roll
 pub record CallNoOverwriting (roll : List ℕ) (c : ℕ) : Type 0 where
   pub refused : (key : List ℕ) (rounds : ℕ) (grant : List ℕ) (block : ℕ) → contractorIn (openedGrant key rounds grant) ≡ c
       → (1 ≤ callCode key rounds roll grant block 2) × (callCode key rounds roll grant block 2 ≤ 999)
-  pub queued : (key : List ℕ) (rounds : ℕ) (grants : List ℕ) (block : ℕ) (out : List ℕ) → callQueueNumber key rounds roll grants 2 out ≡ 0
+  pub queued : (key : List ℕ) (rounds : ℕ) (grants : List ℕ) (block : ℕ) (out : List ℕ) → callQueueNumber key rounds roll grants block 2 out ≡ 0
       → (i : ℕ) → i < grantsIn (length grants) → contractorIn (openedGrant key rounds (grantAt grants i)) ≡ c
       → getD (callQueueOutput key rounds roll grants block 2 out) i 0 ≡ 0 → ⊥
   pub issued : (key : List ℕ) (rounds block : ℕ) (out : List ℕ) → issueCallNumber key rounds roll c block 2 out ≡ 0 → ⊥
@@ -89,7 +89,7 @@ CallsStillRead = (roll : List ℕ) → AreBytes roll → (c : ℕ) → changeCal
     → (hs : List Change) → (CallWithdrawn c hs (changeCallRoll roll c 1) → ⊥) → CallReadsAs roll (bytesAfter hs (changeCallRoll roll c 1)) c
 
 -- ---- raised again
--- raising a contractor on a roll's bytes answers 0, and gordzila_check then answers whatever is asked of their grants as it does on others
+-- raising a contractor on a roll's bytes answers 0, and gordzila_check then answers whatever is asked of their grants as it does on the other bytes
 pub record CallRaises (roll other : List ℕ) (c : ℕ) : Type 0 where
   pub number : changeCallNumber other c 2 ≡ 0
   pub checks : (key : List ℕ) (rounds : ℕ) (grant : List ℕ) (block right : ℕ) → contractorIn (openedGrant key rounds grant) ≡ c

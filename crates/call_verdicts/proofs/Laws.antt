@@ -55,7 +55,7 @@ module _ (key : List ℕ) (rounds : ℕ) (roll : List ℕ) (contractor block rig
       let ts = issueCallTries key rounds roll contractor block right out in
       let cs = coveredTries right asked in
       let g = issuedGrant key rounds (rollOf roll) contractor block right in
-      as-issued key rounds roll contractor block right out i asked
+      as-issued key rounds roll contractor block right out i block asked
       ∙ is-check key rounds roll g block asked (long key rounds roll contractor block right out i)
       ∙ told cs contractor asked _ _ _
       (asked-of-issued key rounds (rollOf roll) contractor block right asked out (issued key rounds roll contractor block right out i))

@@ -93,7 +93,8 @@ pub extern "C" fn gordzila_check_queue(
     right: u32,
     answers: &mut [u8],
 ) -> u32
-    ensures { λ r. ⌜ r ≡ callQueueNumber (now (key .entry)) rounds (now (roll .entry)) (now (grants .entry)) right (now (answers .entry)) ⌝ }
+    ensures { λ r. ⌜ r ≡ callQueueNumber (now (key .entry)) rounds (now (roll .entry)) (now (grants .entry)) «size_block» right
+        (now (answers .entry)) ⌝ }
     ensures { λ _. ⌜ now (answers .exit) ≡ callQueueOutput (now (key .entry)) rounds (now (roll .entry)) (now (grants .entry)) «size_block» right
         (now (answers .entry)) ⌝ }
 {
@@ -112,14 +113,14 @@ pub extern "C" fn gordzila_seal_page(
     scratch: &mut [u8],
     out: &mut [u8],
 ) -> u32
-    ensures { λ r. ⌜ r ≡ sealNumber (now («first_key» .entry)) (now («second_key» .entry)) rounds (now (payload .entry)) (now (scratch .entry))
-        (now (out .entry)) ⌝ }
+    ensures { λ r. ⌜ r ≡ sealNumber (now («first_key» .entry)) (now («second_key» .entry)) rounds «size_block» (now (payload .entry))
+        (now (scratch .entry)) (now (out .entry)) ⌝ }
     ensures { λ _. ⌜ now (out .exit)
         ≡ sealOutput (now («first_key» .entry)) (now («second_key» .entry)) rounds «size_block» «page_number» (now (payload .entry))
         (now (scratch .entry)) (now (out .entry)) ⌝ }
     ensures { λ _. ⌜ now (scratch .exit)
-        ≡ sealScratch (now («first_key» .entry)) (now («second_key» .entry)) rounds (now (payload .entry)) (now (scratch .entry))
-        (now (out .entry)) ⌝ }
+        ≡ sealScratch (now («first_key» .entry)) (now («second_key» .entry)) rounds «size_block» (now (payload .entry))
+        (now (scratch .entry)) (now (out .entry)) ⌝ }
 {
     refusal::outcome_number(sealing::seal(
         first_key,

@@ -27,6 +27,7 @@ use Rattle.holder_walk_call.specs.WalkCall.{walkCallCode}
 use Rattle.holder_calls.proofs.KnownAnswers as HC
 use Rattle.holder_walk_call.proofs.KnownAnswers as HW
 use Rattle.numbers.proofs.KnownAnswers as N
+use Rattle.size_blocks.proofs.KnownAnswers as SB
 use Rattle.rights.proofs.KnownAnswers as RI
 use Rattle.roll.proofs.KnownAnswers as R
 use Rattle.roll_changes.proofs.KnownAnswers as RC
@@ -41,6 +42,7 @@ use Rattle.pages.proofs.KnownAnswers as P
 use Rattle.page_cases.proofs.KnownAnswers as PC
 use Rattle.roll.specs.declared.Roll.{Roll}
 use Rattle.roll.specs.Roll.{countOf, figureOf, entryOf, inStanding}
+use Rattle.size_blocks.specs.SizeBlocks.{isSizeBlock}
 use Rattle.rights.specs.Rights.{covers, highest, withinHighest}
 use Rattle.grant.specs.Grants.{contractorIn, countIn, sizeBlockIn, isMarked, isGrant}
 use Rattle.judging.specs.Judging.{inputTries, plainTries}
@@ -99,10 +101,11 @@ opened-e = refl
 abbrev said : ℕ → List ℕ → List ℕ → ℕ
 said r g p =
     let roll : Roll = record { counts = 1 ∷ 2 ∷ 3 ∷ []; rights = 2 ∷ 1 ∷ 255 ∷ [] } in
-    first (inputTries 12 10 (eqb (length g) 12) r ++ plainTries p (entryOf roll (contractorIn p)) 300 r)
+    first (inputTries 12 10 (eqb (length g) 12) 300 r ++ plainTries p (entryOf roll (contractorIn p)) 300 r)
 
 piles : Hold pileAnswers
-unfolding pileAnswers queueAnswers listedFrom first highest withinHighest countOf figureOf inStanding covers contractorIn countIn sizeBlockIn isMarked isGrant
+unfolding pileAnswers queueAnswers listedFrom first isSizeBlock highest withinHighest countOf figureOf inStanding covers contractorIn countIn sizeBlockIn
+    isMarked isGrant
 piles =
     (λ j.
     said 2 overwritingOf1 (opened-a j) ∷ said 2 readingOf1 (opened-b j) ∷ said 2 overwritingOf2 (opened-c j) ∷ said 2 earlierOf3 (opened-d j)
@@ -113,18 +116,18 @@ piles =
     & tt
 
 orders : Hold orderAnswers
-unfolding orderAnswers first answered whole blank holderOf walkCallCode rollOf countsOf countOf inStanding callCode
+unfolding orderAnswers first isSizeBlock answered whole blank holderOf walkCallCode rollOf countsOf countOf inStanding callCode
 orders =
     refl & refl & refl & refl & refl & refl & refl & refl & refl & refl & refl & refl &
-    refl & refl & refl & refl & refl & refl & refl & refl & refl & refl & refl & tt
+    refl & refl & refl & refl & refl & refl & refl & refl & refl & refl & refl & refl & refl & refl & refl & refl & refl & tt
 
 pub known-answers-hold : KnownAnswersHold
 unfolding KnownAnswersHold allKnownAnswers
 known-answers-hold =
     S.known-answers & B.known-answers & K.known-answers & L.known-answers
     & H.known-answers & HB.known-answers & HC.known-answers & HW.known-answers
-    & N.known-answers & RI.known-answers & R.known-answers & RC.known-answers & RB.known-answers
-    & G.known-answers & J.known-answers & I.known-answers & C.known-answers
-    & QP.known-answers & KP.known-answers & P.known-answers
-    & PC.known-answers & PC.altered-answers & PC.padded-answers & PC.order-answers & PC.chain-answers
+    & N.known-answers & SB.known-answers & RI.known-answers & R.known-answers & RC.known-answers & RB.known-answers
+    & G.known-answers & J.known-answers & J.zero-answers & I.known-answers & I.zero-answers & C.known-answers
+    & QP.known-answers & QP.zero-answers & KP.known-answers & P.known-answers
+    & PC.known-answers & PC.altered-answers & PC.padded-answers & PC.order-answers & PC.zero-answers & PC.chain-answers
     & last-stages & piles & orders & tt

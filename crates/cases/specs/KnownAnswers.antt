@@ -2,7 +2,7 @@
 -- pins. What is expected is what the independent program prints, line by line (`reference answers`); `tools/known-answers` compares the two.
 -- Each crate has those of its definitions beside them; here stand those that take long to compute, the last stages with their subkeys and holders,
 -- the closing sums and a queue of five grants, and the claim over them all. Where that program has no such call, document 01's order lines are taken
--- as they stand.
+-- as they stand, as the requests amend them.
 use mathlib.Core.List.{List, [], _∷_}
 use Prim.Native.Nat.{ℕ}
 use lib.ListN.{replicate}
@@ -32,6 +32,7 @@ use Rattle.queue_call.specs.QueueCall.{callQueueNumber}
 use Rattle.holder_calls.specs.KnownAnswers as HC
 use Rattle.holder_walk_call.specs.KnownAnswers as HW
 use Rattle.numbers.specs.KnownAnswers as N
+use Rattle.size_blocks.specs.KnownAnswers as SB
 use Rattle.rights.specs.KnownAnswers as RI
 use Rattle.roll.specs.KnownAnswers as R
 use Rattle.roll_changes.specs.KnownAnswers as RC
@@ -121,7 +122,7 @@ orderAnswers =
     ((cipherNumber (replicate 11 0) 12 (replicate 12 0) (replicate 12 0) ∷ []) is (1 ∷ []))
     ∷ ((cipherNumber (replicate 12 0) 12 (replicate 11 0) (replicate 12 0) ∷ []) is (2 ∷ []))
     ∷ ((cipherNumber (replicate 12 0) 10 (replicate 11 0) (replicate 11 0) ∷ []) is (3 ∷ []))
-    -- prepared list 1, 2, 4
+    -- prepared list 1, 2, 4, which has no block
     ∷ ((prepareNumber (replicate 11 0) 12 (replicate 288 0) ∷ []) is (1 ∷ []))
     ∷ ((prepareNumber (replicate 12 0) 12 (replicate 131 0) ∷ []) is (2 ∷ []))
     -- engine 5, 3, 4
@@ -143,16 +144,23 @@ orderAnswers =
     ∷ ((withdrawCallNumber (replicate 599 0) 0 ∷ withdrawCallNumber (replicate 600 0) 0 ∷ []) is (3 ∷ 6 ∷ []))
     -- change of right 3, 6, 7, 20
     ∷ ((changeCallNumber (replicate 599 0) 0 3 ∷ changeCallNumber (replicate 600 0) 0 3 ∷ changeCallNumber (replicate 600 0) 7 3 ∷ []) is (3 ∷ 6 ∷ 7 ∷ []))
-    -- issue 1, 2, 3, 4, 6, 7, 20, 25, of which 2, 3 and 4 with their neighbours
+    -- issue 1, 2, 3, 4, 6, 7, 14, 20, 25, of which 2, 3, 4, 7 and 14 with their neighbours
     ∷ ((issueCallNumber (replicate 12 0) 12 (replicate 599 0) 0 300 3 (replicate 11 0) ∷ []) is (2 ∷ []))
     ∷ ((issueCallNumber (replicate 12 0) 10 (replicate 599 0) 0 300 3 (replicate 11 0) ∷ []) is (3 ∷ []))
     ∷ ((issueCallNumber (replicate 12 0) 10 (replicate 600 0) 0 300 3 (replicate 11 0) ∷ []) is (4 ∷ []))
-    -- check 1, 2, 3, 7 and so on, with 3 for the roll
+    ∷ ((issueCallNumber (replicate 12 0) 10 (replicate 600 0) 7 0 3 (replicate 12 0) ∷ []) is (7 ∷ []))
+    ∷ ((issueCallNumber (replicate 12 0) 10 (replicate 600 0) 7 0 2 (replicate 12 0) ∷ []) is (14 ∷ []))
+    -- check 1, 2, 3, 7, 14 and so on, with 3 for the roll
     ∷ ((callCode (replicate 12 0) 12 (replicate 599 0) (replicate 12 0) 300 3 ∷ []) is (2 ∷ []))
     ∷ ((callCode (replicate 12 0) 10 (replicate 599 0) (replicate 12 0) 300 3 ∷ []) is (3 ∷ []))
-    -- queue 1, 2, 3, 4, 7, with 3 for the roll
-    ∷ ((callQueueNumber (replicate 12 0) 12 (replicate 599 0) (replicate 12 0) 3 [] ∷ []) is (2 ∷ []))
-    ∷ ((callQueueNumber (replicate 12 0) 10 (replicate 599 0) (replicate 12 0) 3 [] ∷ []) is (3 ∷ []))
+    ∷ ((callCode (replicate 12 0) 10 (replicate 600 0) (replicate 12 0) 0 3 ∷ []) is (7 ∷ []))
+    ∷ ((callCode (replicate 12 0) 10 (replicate 600 0) (replicate 12 0) 0 2 ∷ []) is (14 ∷ []))
+    -- queue 1, 2, 3, 4, 7, 14, with 3 for the roll
+    ∷ ((callQueueNumber (replicate 12 0) 12 (replicate 599 0) (replicate 12 0) 0 3 [] ∷ []) is (2 ∷ []))
+    ∷ ((callQueueNumber (replicate 12 0) 10 (replicate 599 0) (replicate 12 0) 0 3 [] ∷ []) is (3 ∷ []))
+    ∷ ((callQueueNumber (replicate 12 0) 10 (replicate 600 0) (replicate 12 0) 0 3 (0 ∷ []) ∷ []) is (7 ∷ []))
+    -- and 14 alone
+    ∷ ((callQueueNumber (replicate 12 0) 10 (replicate 600 0) (replicate 12 0) 0 2 (0 ∷ []) ∷ []) is (14 ∷ []))
     ∷ []
 
 -- all of them
@@ -167,21 +175,26 @@ allKnownAnswers =
     ∷ HC.knownAnswers
     ∷ HW.knownAnswers
     ∷ N.knownAnswers
+    ∷ SB.knownAnswers
     ∷ RI.knownAnswers
     ∷ R.knownAnswers
     ∷ RC.knownAnswers
     ∷ RB.knownAnswers
     ∷ G.knownAnswers
     ∷ J.knownAnswers
+    ∷ J.zeroAnswers
     ∷ I.knownAnswers
+    ∷ I.zeroAnswers
     ∷ C.knownAnswers
     ∷ QP.knownAnswers
+    ∷ QP.zeroAnswers
     ∷ KP.knownAnswers
     ∷ P.knownAnswers
     ∷ PC.knownAnswers
     ∷ PC.alteredAnswers
     ∷ PC.paddedAnswers
     ∷ PC.orderAnswers
+    ∷ PC.zeroAnswers
     ∷ PC.chainAnswers
     ∷ knownAnswers
     ∷ pileAnswers

@@ -1,4 +1,5 @@
--- What the C call of the check returns: document 01, "What the store calls" and reason 3, as request 6 amends them.
+-- What the C call of the check returns: document 01, "What the store calls", with the right asked for, as request 1 has it, and reason 3, as request 6
+-- has it. Its order is that of the check.
 use mathlib.Core.Bool.{_&&_}
 use mathlib.Core.List.{List, _++_}
 use Prim.Native.Nat.{ℕ, _+_, _*_}
@@ -22,7 +23,7 @@ verdictCode (Refused r) = reasonNumber r
 -- the order line of the C call: that of the check, with 3 for the roll or the grant
 abbrev pub callTries : List ℕ → ℕ → List ℕ → List ℕ → ℕ → ℕ → List Try
 callTries key rounds roll grant size-block right =
-    inputTries (length key) rounds (eqb (length roll) rollLength && eqb (length grant) 12) right
+    inputTries (length key) rounds (eqb (length roll) rollLength && eqb (length grant) 12) size-block right
     ++ plainTries (openedGrant key rounds grant) (entryNow key rounds (rollOf roll) grant) size-block right
 
 -- what it answers: the first reason's number, or 1,000 times the right that was asked for plus the grant's contractor

@@ -38,6 +38,7 @@ pub fn check(key: &[u8], rounds: u32, roll: &[u8], grant: &[u8], size_block: u32
         key.len(),
         rounds,
         are_lengths(roll.len(), grant.len()),
+        size_block,
         right,
     );
     if refusal::is_refused(tried) {

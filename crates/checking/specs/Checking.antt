@@ -1,5 +1,6 @@
 -- What checking a grant on a roll answers: document 01, "Roll and grant" and the order line "check 1, 2, 3, 7, 8, 9, 10, 20, 23",
--- with 25 last, as request 6 has it: what is tried of the input, then of the plain bytes.
+-- with 10 and the right that is answered as request 1 has them, 25 last, as request 6 has it, and 14 directly after 7, as request 7 has it: what is
+-- tried of the input, then of the plain bytes.
 use mathlib.Core.List.{List, _++_}
 use Prim.Native.Nat.{ℕ}
 use lib.Dec.{eqb}
@@ -23,7 +24,7 @@ entryNow key rounds roll grant = entryOf roll (contractorIn (openedGrant key rou
 
 abbrev pub checkTries : List ℕ → ℕ → Roll → List ℕ → ℕ → ℕ → List Try
 checkTries key rounds roll grant size-block right =
-    inputTries (length key) rounds (eqb (length grant) 12) right
+    inputTries (length key) rounds (eqb (length grant) 12) size-block right
     ++ plainTries (openedGrant key rounds grant) (entryNow key rounds roll grant) size-block right
 
 abbrev pub checkNumber : List ℕ → ℕ → Roll → List ℕ → ℕ → ℕ → ℕ

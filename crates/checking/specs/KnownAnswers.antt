@@ -14,6 +14,8 @@ knownAnswers =
     ∷ ((checkNumber (replicate 12 0) 12 emptyRoll (replicate 11 0) 300 2 ∷ []) is (2 ∷ []))
     -- order check 3 7
     ∷ ((checkNumber (replicate 12 0) 10 emptyRoll (replicate 11 0) 300 3 ∷ []) is (3 ∷ []))
-    -- order check 7 8
-    ∷ ((checkNumber (replicate 12 0) 10 emptyRoll (replicate 12 0) 300 3 ∷ []) is (7 ∷ []))
+    -- order check 7 14
+    ∷ ((checkNumber (replicate 12 0) 10 emptyRoll (replicate 12 0) 0 3 ∷ []) is (7 ∷ []))
+    -- order check 14 8
+    ∷ ((checkNumber (replicate 12 0) 10 emptyRoll (replicate 12 0) 0 2 ∷ []) is (14 ∷ []))
     ∷ []

@@ -52,7 +52,7 @@ pub fn check(
     ensures { λ r. ⌜ verdictContractor r ≡ checkContractor (now (key .entry)) rounds roll (now (grant .entry)) «size_block» right ⌝ }
     ensures { λ r. ⌜ verdictRight r ≡ checkRight (now (key .entry)) rounds roll (now (grant .entry)) «size_block» right ⌝ }
 {
-    let tried = judging::try_input(key.len(), rounds, grant.len() == 12, right);
+    let tried = judging::try_input(key.len(), rounds, grant.len() == 12, size_block, right);
     if let Outcome::Refused(reason) = tried {
         return Verdict::Refused(reason);
     }

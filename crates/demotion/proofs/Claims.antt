@@ -8,6 +8,7 @@ use Rattle.refusal.specs.Tries.{first, answered}
 use Rattle.roll.specs.declared.Roll.{Roll}
 use Rattle.roll.specs.Roll.{emptyRoll, countOf, figureOf, inStanding, withEntry}
 use Rattle.roll_changes.specs.Changes.{enteredRoll, changeNumber, changedRoll}
+use Rattle.size_blocks.specs.SizeBlocks.{isSizeBlock}
 use Rattle.rights.specs.Rights.{highest, withinHighest}
 use Rattle.issuing.specs.Issuing.{issueNumber}
 use Rattle.histories.specs.Histories.{enter, change, withdraw, rollAfter, Withdrawn, later, Raised, by-entering, raised-later}
@@ -61,7 +62,7 @@ unfolding first answered emptyRoll countOf inStanding withEntry enteredRoll
 demoted-7 = refl
 
 not-issued-7 : issueNumber (replicate 12 0) 10 (changedRoll roll7 7 1) 7 300 2 (replicate 12 0) ≡ 25
-unfolding first answered emptyRoll countOf figureOf inStanding withEntry enteredRoll changedRoll withinHighest highest
+unfolding first answered isSizeBlock emptyRoll countOf figureOf inStanding withEntry enteredRoll changedRoll withinHighest highest
 not-issued-7 = refl
 
 -- no withdrawal, and an enter for reading alone, raise anybody; the enter before them is refused with 21

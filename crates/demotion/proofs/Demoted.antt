@@ -6,13 +6,14 @@ use Prim.Native.Nat.{ℕ}
 use native.Mathlib.Omega.{arith}
 use lib.Dec.{eqb, leb, lit<}
 use lib.ListN.{length}
-use Rattle.refusal.specs.Tries.{Try, _unless_, first, written}
+use Rattle.refusal.specs.Tries.{Try, _unless_, first, written, NoneHolds}
 use Rattle.refusal.proofs.Tries.{first-then, first-holds, none-given}
 use Rattle.refusal.proofs.Ladder.{all-pass}
 use Rattle.refusal.proofs.Given.{given-by}
 use Rattle.refusal.proofs.Answers.{answer-done}
+use Rattle.size_blocks.specs.SizeBlocks.{isSizeBlock}
 use Rattle.rights.specs.Rights.{isRight, covers, withinHighest}
-use Rattle.rights.proofs.Rights.{covers-reading, covers-overwriting, within-reading, within-overwriting, above-highest}
+use Rattle.rights.proofs.Rights.{covers-overwriting, within-reading, within-overwriting, above-highest}
 use Rattle.roll.specs.declared.Roll.{Roll}
 use Rattle.roll.specs.declared.Entry.{Entry}
 use Rattle.roll.specs.Roll.{isContractor, countOf, figureOf, entryOf, inStanding}
@@ -21,28 +22,35 @@ use Rattle.histories.specs.Histories.{Change, change, changed, rollAfter, Withd
 use Rattle.histories.proofs.Calls.{changing, changed-own, changed-roll, after-roll}
 use Rattle.histories.proofs.Demoted.{stays, stays-low}
 use Rattle.grant.specs.Grants.{plainGrant, contractorIn, countIn, rightIn, isGrant}
-use Rattle.grant.proofs.Tests.{a-grant}
 use Rattle.settings.specs.Settings.{settingsTries}
 use Rattle.key_lists.specs.declared.Direction.the-variants.{Enciphering}
 use Rattle.cipher.specs.Cipher.{cipherBlock}
 use Rattle.issuing.specs.Issuing.{issueTries, issueNumber, issuedGrant, issueOutput}
+use Rattle.issuing.proofs.Passed.{WantedPassed, wanted-passed}
 use Rattle.judging.specs.Judging.{inputTries, askedTries}
+use Rattle.judging.proofs.Passed.{input-passed, input-passes}
 use Rattle.checking.specs.Checking.{openedGrant, checkTries, checkNumber, checkContractor}
 use Rattle.revocation.specs.Claims.{Accepted, SameCheck, OverwritingOpensReading, OnlyOverwritingOverwrites}
-use Rattle.revocation.proofs.Checks.{passed, not-refused}
+use Rattle.revocation.proofs.Checks.{passed, not-refused, reads-too}
 use Rattle.revocation.proofs.Others.{same-answers, same-entry}
 use Rattle.revocation.proofs.Claims.{overwriting-opens-reading, only-overwriting-overwrites}
 use Rattle.demotion.specs.Claims.{NoOverwriting, Raises, Above, IssueAbove}
+
+-- what an issue passed that was not refused
+wanted : (key : List ℕ) (rounds : ℕ) (roll : Roll) (c block right : ℕ) (out : List ℕ) → issueNumber key rounds roll c block right out ≡ 0
+    → NoneHolds (settingsTries (length key) rounds) × WantedPassed (length out) c block right (entryOf roll c)
+wanted key rounds roll c block right out e =
+    let h = all-pass (issueTries key rounds roll c block right out) refl e in
+    ((h .0, (h .1 .0, tt)), wanted-passed (length out) c block right (entryOf roll c) (h .1 .1))
 
 -- ---- a figure that is not 2
 pub no-overwriting : (roll : Roll) (c : ℕ) → (figureOf roll c ≡ 2 → ⊥) → NoOverwriting roll c
 no-overwriting roll c low = record {
   opens = λ key rounds grant block e z.
-      let h = passed key rounds roll grant block 2 z in
-      let two = within-overwriting (figureOf roll (contractorIn (openedGrant key rounds grant))) (h .1 .1 .1 .1 .1 .1 .1 .1 .1 .0) in
+      let two = within-overwriting (figureOf roll (contractorIn (openedGrant key rounds grant))) (passed key rounds roll grant block 2 z .1 .within) in
       low (ap (figureOf roll) (sym e) ∙ two);
   issued = λ key rounds block out z.
-      low (within-overwriting (figureOf roll c) (all-pass (issueTries key rounds roll c block 2 out) refl z .1 .1 .1 .1 .1 .1 .0));
+      low (within-overwriting (figureOf roll c) (wanted key rounds roll c block 2 out z .1 .within));
 }
 
 -- ---- reading
@@ -54,7 +62,7 @@ same-reading key rounds roll other grant block e =
     let p = openedGrant key rounds grant in
     let c = contractorIn p in
     let number : ℕ → Bool → ℕ =
-    λ n b. first (inputTries (length key) rounds (eqb (length grant) 12) 1
+    λ n b. first (inputTries (length key) rounds (eqb (length grant) 12) block 1
     ++ ((8 unless isGrant p) ∷ (askedTries p block 1
     ++ ((20 unless inStanding n) ∷ (23 unless eqb (countIn p) n) ∷ (25 unless b) ∷ [])))) in
     same-answers key rounds roll other grant block 1
@@ -66,7 +74,8 @@ pub same-issue : (key : List ℕ) (rounds : ℕ) (roll other : Roll) (c block : 
 same-issue key rounds roll other c block out e =
     let number : ℕ → Bool → ℕ =
     λ n b. first (settingsTries (length key) rounds
-    ++ ((4 unless leb 12 (length out)) ∷ (6 unless isContractor c) ∷ (7 unless isRight 1) ∷ (20 unless inStanding n) ∷ (25 unless b) ∷ [])) in
+    ++ ((4 unless leb 12 (length out)) ∷ (6 unless isContractor c) ∷ (7 unless isRight 1) ∷ (14 unless isSizeBlock block)
+    ∷ (20 unless inStanding n) ∷ (25 unless b) ∷ [])) in
     ap₂ number e (within-reading (figureOf other c) ∙ sym (within-reading (figureOf roll c)))
 
 pub same-grant : (key : List ℕ) (rounds : ℕ) (roll other : Roll) (c block : ℕ) (out : List ℕ) → countOf other c ≡ countOf roll c
@@ -105,39 +114,40 @@ module _ (key : List ℕ) (rounds : ℕ) (roll : Roll) (grant : List ℕ) (block
   p = openedGrant key rounds grant
 
   -- all that is tried before it
+  plain-before : List Try
+  plain-before =
+      (8 unless isGrant p) ∷ (askedTries p block right
+      ++ ((20 unless inStanding (countOf roll (contractorIn p))) ∷ (23 unless eqb (countIn p) (countOf roll (contractorIn p))) ∷ []))
+
   before : List Try
-  before =
-      inputTries (length key) rounds (eqb (length grant) 12) right
-      ++ ((8 unless isGrant p) ∷ (askedTries p block right
-      ++ ((20 unless inStanding (countOf roll (contractorIn p))) ∷ (23 unless eqb (countIn p) (countOf roll (contractorIn p))) ∷ [])))
+  before = inputTries (length key) rounds (eqb (length grant) 12) block right ++ plain-before
 
   pub twenty-five : checkNumber key rounds roll grant block right ≡ 25 → Above key rounds roll grant block right
-  unfolding p before
+  unfolding p plain-before before
   twenty-five e =
       let g = given-by 25 (lit< tt) (withinHighest right (figureOf roll (contractorIn p))) [] refl before refl e in
-      let h = g .0 in
-      let t = h .1 .1 .1 .1 in
+      let h = input-passed (length key) rounds (eqb (length grant) 12) block right plain-before (g .0) in
+      let t = h .1 in
       let s = t .1 .1 .1 in
-      let a = above-highest right (figureOf roll (contractorIn p)) (h .1 .1 .1 .0) (g .1) in
-      let reading = covers-reading (rightIn p) (a-grant p (t .0) .right) in
+      let a = above-highest right (figureOf roll (contractorIn p)) (h .0 .asked) (g .1) in
       record {
         asked = a .0;
         overwrites = covers-overwriting (rightIn p) (ap (covers (rightIn p)) (sym (a .0)) ∙ t .1 .1 .0);
-        reads = none-given (checkTries key rounds roll grant block 1)
-            (h .0, (h .1 .0, (h .1 .1 .0, (refl, (t .0, (t .1 .0, (reading, (s .0, (s .1 .0, (within-reading _, tt))))))))));
+        reads = reads-too key rounds roll grant block right (h .0) (t .0) (t .1 .0) (s .0) (s .1 .0);
         low = a .1;
       }
 
   pub is-above : Above key rounds roll grant block right → checkNumber key rounds roll grant block right ≡ 25
-  unfolding p before covers
+  unfolding p plain-before before covers
   is-above a =
       let h = passed key rounds roll grant block 1 (a .reads) in
-      let t = h .1 .1 .1 .1 in
-      let s = t .1 .1 .1 in
-      let known = ap isRight (a .asked) in
+      let i = h .0 in
+      let t = h .1 in
       let covered = ap₂ covers (a .overwrites) (a .asked) in
       first-then before ((25 unless withinHighest right (figureOf roll (contractorIn p))) ∷ [])
-      (h .0, (h .1 .0, (h .1 .1 .0, (known, (t .0, (t .1 .0, (covered, (s .0, (s .1 .0, tt)))))))))
+      (input-passes (length key) rounds (eqb (length grant) 12) block right plain-before
+      record { key-length = i .key-length; round-count = i .round-count; long = i .long; asked = ap isRight (a .asked); some-block = i .some-block }
+      (t .whole, (t .same-block, (covered, (t .stands, (t .same-count, tt))))))
       ∙ first-holds _ _ (ap (λ (r : ℕ). withinHighest r (figureOf roll (contractorIn p))) (a .asked) ∙ not-within _ (a .low))
 
 -- and by an issue
@@ -145,7 +155,8 @@ module _ (key : List ℕ) (rounds : ℕ) (roll : Roll) (c block right : ℕ) (ou
   before-issue : List Try
   before-issue =
       settingsTries (length key) rounds
-      ++ ((4 unless leb 12 (length out)) ∷ (6 unless isContractor c) ∷ (7 unless isRight right) ∷ (20 unless inStanding (countOf roll c)) ∷ [])
+      ++ ((4 unless leb 12 (length out)) ∷ (6 unless isContractor c) ∷ (7 unless isRight right) ∷ (14 unless isSizeBlock block)
+      ∷ (20 unless inStanding (countOf roll c)) ∷ [])
 
   pub issue-twenty-five : issueNumber key rounds roll c block right out ≡ 25 → IssueAbove key rounds roll c block right out
   unfolding before-issue
@@ -153,21 +164,22 @@ module _ (key : List ℕ) (rounds : ℕ) (roll : Roll) (c block right : ℕ) (ou
       let g = given-by 25 (lit< tt) (withinHighest right (figureOf roll c)) [] refl before-issue refl e in
       let h = g .0 in
       let t = h .1 .1 in
+      let s = t .1 .1 .1 in
       let a = above-highest right (figureOf roll c) (t .1 .1 .0) (g .1) in
       record {
         asked = a .0;
         reads = none-given (issueTries key rounds roll c block 1 out)
-            (h .0, (h .1 .0, (t .0, (t .1 .0, (refl, (t .1 .1 .1 .0, (within-reading _, tt)))))));
+            (h .0, (h .1 .0, (t .0, (t .1 .0, (refl, (s .0, (s .1 .0, (within-reading _, tt))))))));
         low = a .1;
       }
 
   pub issue-is-above : IssueAbove key rounds roll c block right out → issueNumber key rounds roll c block right out ≡ 25
   unfolding before-issue
   issue-is-above a =
-      let h = all-pass (issueTries key rounds roll c block 1 out) refl (a .reads) in
-      let t = h .1 .1 in
+      let h = wanted key rounds roll c block 1 out (a .reads) in
+      let w = h .1 in
       first-then before-issue ((25 unless withinHighest right (figureOf roll c)) ∷ [])
-      (h .0, (h .1 .0, (t .0, (t .1 .0, (ap isRight (a .asked), (t .1 .1 .1 .0, tt))))))
+      (h .0 .0, (h .0 .1 .0, (w .fits, (w .known, (ap isRight (a .asked), (w .some-block, (w .stands, tt)))))))
       ∙ first-holds _ _ (ap (λ (r : ℕ). withinHighest r (figureOf roll c)) (a .asked) ∙ not-within _ (a .low))
 
 -- ---- a demotion that is accepted

@@ -32,7 +32,7 @@ fn fill(key: &[u8], rounds: usize, out: &mut [u8])
     }
 }
 
-// A subkey of the turned list: diffused, unless it is the key's last, which comes first.
+// Subkey s of the key, from 1 on, as the turned list has it: diffused, unless it is the last, which comes first.
 fn turn_subkey(k: [[u8; 3]; 4], s: usize, rounds: usize) -> [[u8; 3]; 4]
     ensures { λ r. ⌜ r ≡ cond (ltb s rounds) (diffused k) k ⌝ }
 {

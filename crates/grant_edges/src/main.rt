@@ -133,7 +133,14 @@ fn withdraw_line() {
     changed(roll_changes::withdraw(roll, c));
 }
 
-// An issue for size block 300.
+// The size block that stands in a grant, which a key with a round count deciphers.
+fn named_block(key: &[u8], rounds: u32, grant: &[u8]) -> u32 {
+    let mut plain = [0u8; 12];
+    cipher::decipher(key, rounds, grant, &mut plain);
+    numbers::four_from(plain[4], plain[5], plain[6], plain[7])
+}
+
+// An issue, and the size block that stands in what was issued.
 fn issue_line() {
     let key = [7u8; 32];
     let mut out = [MARK; 16];
@@ -142,17 +149,24 @@ fn issue_line() {
     let r = printing::echo_u32();
     let o = printing::echo();
     let looked = echo_looked();
+    let asked = printing::echo_u32();
     let right = printing::echo_u32();
     let answer = issuing::issue(
         printing::first(&key, k),
         r,
         looked.roll,
         looked.contractor,
-        300,
+        asked,
         right,
         printing::first_mut(&mut out, o),
     );
     let n = outcome(answer);
+    let named = if n == 0 {
+        named_block(printing::first(&key, k), r, printing::first(&out, 12))
+    } else {
+        0
+    };
+    printing::number(named as u64);
     printing::kept(&out, if n == 0 { 12 } else { 0 }, MARK);
 }
 
@@ -183,7 +197,7 @@ fn echo_plain(contractor: u32) -> [u8; 12] {
     ]
 }
 
-// A grant, enciphered under twelve bytes of the key with ten rounds, checked for size block 300.
+// A grant, enciphered under twelve bytes of the key with ten rounds, and checked. It is made without an issue, so that it can name size block 0.
 fn check_line() {
     let key = [7u8; 32];
     let mut grant = [0u8; 16];
@@ -191,6 +205,7 @@ fn check_line() {
     let k = printing::echo();
     let r = printing::echo_u32();
     let l = printing::echo();
+    let asked = printing::echo_u32();
     let right = printing::echo_u32();
     let looked = echo_looked();
     let plain = echo_plain(looked.contractor);
@@ -200,7 +215,7 @@ fn check_line() {
         r,
         looked.roll,
         printing::first(&grant, l),
-        300,
+        asked,
         right,
     ));
 }

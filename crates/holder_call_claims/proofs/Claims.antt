@@ -1,6 +1,11 @@
 -- A term of each type of specs/Claims.antt.
 use Rattle.holder_call_claims.specs.Claims.{AnyHolderRoute, BytesTurnHome, BrokenLentIsRefused, OtherLengthIsRefused}
-use Rattle.holder_call_claims.specs.Claims.{RefusedCallKeepsBytes, WalksAnswerSo, CodesTellWalks}
+use Rattle.holder_call_claims.specs.Claims.{LentInOrder, RefusedCallKeepsBytes, WalksAnswerSo, CodesTellWalks}
+use mathlib.Core.Path.{refl}
+use Rattle.refusal.proofs.Ladder.{ordered}
+use Rattle.stage_calls.specs.StageCalls.{stageCallTries}
+use Rattle.holder_calls.specs.HolderCalls.{makeCallTries}
+use Rattle.holder_subkey_call.specs.SubkeyCall.{heldSubkeyTries}
 use Rattle.holder_call_claims.proofs.Lent as lent
 use Rattle.holder_call_claims.proofs.Routes.{any-route-of, turn-home}
 use Rattle.holder_call_claims.proofs.Codes as codes
@@ -8,6 +13,14 @@ use Rattle.holder_call_claims.proofs.Codes as codes
 pub any-holder-route : AnyHolderRoute
 unfolding AnyHolderRoute
 any-holder-route = any-route-of
+
+pub lent-in-order : LentInOrder
+unfolding LentInOrder
+lent-in-order key lent n out = record {
+  stage = λ room. ordered (stageCallTries room key n out) refl;
+  made = ordered (makeCallTries key lent) refl;
+  subkey = ordered (heldSubkeyTries lent out) refl;
+}
 
 pub bytes-turn-home : BytesTurnHome
 unfolding BytesTurnHome

@@ -1,7 +1,7 @@
 -- C calls on the bytes of a key's holder at a place: each answers what it has to and leaves the bytes of the place after it.
 use mathlib.Core.Path.{_≡_, refl, sym, ap, ap₂, _∙_}
 use mathlib.Core.Bool.{true, cond}
-use mathlib.Core.List.{List, [], _∷_}
+use mathlib.Core.List.{List, [], _∷_, _++_}
 use Prim.Native.Nat.{ℕ, zero, suc, _+_, _≤_, _<_}
 use native.Mathlib.Omega.{arith}
 use lib.Dec.{leb}
@@ -11,7 +11,7 @@ use Rattle.basics.specs.Bytes.{AreBytes}
 use Rattle.basics.specs.Repeated.{repeated}
 use Rattle.refusal.specs.Tries.{_unless_, first, written, answered}
 use Rattle.refusal.proofs.Tries.{first-passes, none-given}
-use Rattle.refusal.proofs.Answers.{kept, put-all}
+use Rattle.refusal.proofs.Answers.{kept, put, put-all}
 use Rattle.block_bytes.specs.Blocks.{bytesOf}
 use Rattle.sizes.specs.Sizes.{keyLength, tOf, turn}
 use Rattle.sizes.proofs.Keys.{a-key}
@@ -131,11 +131,11 @@ module _ (key : List ℕ) (bytes : AreBytes key) (right : keyLength (length key)
     straight-number out l =
         first-passes _ _ right ∙ first-passes _ _ (lt-ltb n (turn (tOf (length key))) b) ∙ first-passes _ [] (le-leb 24 (length out) l) ∙ none-given [] tt
 
-    pub straight-left : (out : List ℕ) → length out ≡ 24 → stageCallOutput key n out ≡ drop 2 (holderBytes (holderAt key n))
+    pub straight-left : (out : List ℕ) → 24 ≤ length out → stageCallOutput key n out ≡ drop 2 (holderBytes (holderAt key n)) ++ drop 24 out
     unfolding stageCallOutput holderBytes
     straight-left out l =
         let k = padded (stage (tOf (length key)) key n) in
-        ap (λ (m : ℕ). written m k out) (straight-number out (omega (arith, l))) ∙ sym (put-all 0 k out refl (omega (arith, l, stage-24 n)))
+        sym (put (stageCallNumber 24 key n out) k out (straight-number out l)) ∙ ap (λ (m : ℕ). k ++ drop m out) (stage-24 n)
 
   -- ---- full turns
   steps-left : (way : Way) (n : ℕ) → n < turn (tOf (length key)) → (m : ℕ) → repeated m (stepCallHolder way) (holderBytes (holderAt key n))

@@ -2,7 +2,7 @@
 use mathlib.Core.Path.{_≡_, refl, sym, ap, ap₂, _∙_, subst}
 use mathlib.Core.Logic.{inl, inr}
 use mathlib.Core.Bool.{Bool, true, false, cond}
-use mathlib.Core.List.{List, [], _∷_}
+use mathlib.Core.List.{List, [], _∷_, _++_}
 use Prim.Native.Nat.{ℕ, _+_, _<_}
 use native.Mathlib.Omega.{arith}
 use lib.ListN.{length, drop, length-drop}
@@ -144,7 +144,8 @@ any-route-of key b e lent l cs k =
       ends = ends;
       left = ap (allLeft cs) (m .1) ∙ all-left cs k (startOf key) s;
       given-straight = straight-number (p .key) (g .bytes) (g .right) (p .number) (g .below);
-      straight = λ out o. straight-left (p .key) (g .bytes) (g .right) (p .number) (g .below) out o ∙ ap (drop 2) (sym ends);
+      straight = λ out o. straight-left (p .key) (g .bytes) (g .right) (p .number) (g .below) out o
+          ∙ ap (λ (l : List ℕ). drop 2 l ++ drop 24 out) (sym ends);
       turns = λ way. subst (λ (x : List ℕ). TurnsHome x way) (sym ends) (turns-home (p .key) (g .bytes) (g .right) way (p .number) (g .below));
     }
 

@@ -1,21 +1,22 @@
 -- What is claimed of lists of C calls on a lent key holder: demand 3 for hosts in C. A term of each type stands in proofs/Claims.antt.
 use mathlib.Core.Bool.{true, false}
 use mathlib.Core.Path.{_≡_}
-use mathlib.Core.List.{List, [], _∷_}
+use mathlib.Core.List.{List, [], _∷_, _++_}
 use Prim.Native.Nat.{ℕ, _≤_, _<_}
 use lib.ListN.{length, drop}
 use Rattle.basics.specs.Bytes.{AreBytes}
 use Rattle.basics.specs.Repeated.{repeated}
+use Rattle.refusal.specs.Claims.{Ordered}
 use Rattle.sizes.specs.Sizes.{keyLength, turn}
 use Rattle.holder.specs.declared.Holder.{Holder}
 use Rattle.holder.specs.declared.Way.{Way}
 use Rattle.holder.specs.declared.Way.the-variants.{Forward}
 use Rattle.holder.specs.Holder.{tHeld, whole}
-use Rattle.stage_calls.specs.StageCalls.{stageCallNumber, stageCallOutput}
+use Rattle.stage_calls.specs.StageCalls.{stageCallTries, stageCallNumber, stageCallOutput}
 use Rattle.holder_bytes.specs.HolderBytes.{holderLength, holderOf}
-use Rattle.holder_calls.specs.HolderCalls.{makeCallNumber, makeCallOutput, stepCallNumber, stepCallHolder}
+use Rattle.holder_calls.specs.HolderCalls.{makeCallTries, makeCallNumber, makeCallOutput, stepCallNumber, stepCallHolder}
 use Rattle.holder_walk_call.specs.WalkCall.{walkCode, walkCallCode, walkCallHolder}
-use Rattle.holder_subkey_call.specs.SubkeyCall.{heldSubkeyNumber, heldSubkeyOutput}
+use Rattle.holder_subkey_call.specs.SubkeyCall.{heldSubkeyTries, heldSubkeyNumber, heldSubkeyOutput}
 use Rattle.holder_call_claims.specs.HolderRoutes.{HolderCall, make, forward, back, walk, subkey, leaves, lastBytes, allLeft}
 use Rattle.holder_call_claims.specs.HolderRoutes.{tAt, bytesAt, startOf, lastPlace, allExpected, WalkAnswer, walkAnswer}
 
@@ -35,8 +36,9 @@ pub record HolderRoute (key lent : List ℕ) (cs : List HolderCall) : Type 0 whe
   pub left : allLeft cs (makeCallOutput key lent) ≡ allExpected cs (startOf key)
   -- and gordzila_stage gives the same 24 bytes, straight from the key and the stage's number
   pub given-straight : (out : List ℕ) → 24 ≤ length out → stageCallNumber 24 (lastPlace cs (startOf key) .key) (lastPlace cs (startOf key) .number) out ≡ 0
-  pub straight : (out : List ℕ) → length out ≡ 24
-      → stageCallOutput (lastPlace cs (startOf key) .key) (lastPlace cs (startOf key) .number) out ≡ drop 2 (lastBytes cs (makeCallOutput key lent))
+  pub straight : (out : List ℕ) → 24 ≤ length out
+      → stageCallOutput (lastPlace cs (startOf key) .key) (lastPlace cs (startOf key) .number) out
+      ≡ drop 2 (lastBytes cs (makeCallOutput key lent)) ++ drop 24 out
   -- a full turn from there, either way, brings the same 26 bytes
   pub turns : (way : Way) → TurnsHome (lastBytes cs (makeCallOutput key lent)) way
 
@@ -56,6 +58,16 @@ KeysAreBytes (c ∷ cs) = KeyIsBytes c × KeysAreBytes cs
 unfoldable pub AnyHolderRoute : Type 0
 AnyHolderRoute = (key : List ℕ) → AreBytes key → keyLength (length key) ≡ true → (lent : List ℕ) → length lent ≡ holderLength
     → (cs : List HolderCall) → KeysAreBytes cs → HolderRoute key lent cs
+
+-- each refusal of the C calls has its reason, and the first in order is given. A stage takes 24 bytes and its subkey 12; steps and walks of lent holders
+-- try what those by value try (`routes` `HolderInOrder`)
+pub record LentOrdered (key lent : List ℕ) (n : ℕ) (out : List ℕ) : Type 0 where
+  pub stage : (room : ℕ) → Ordered (stageCallTries room key n out)
+  pub made : Ordered (makeCallTries key lent)
+  pub subkey : Ordered (heldSubkeyTries lent out)
+
+unfoldable pub LentInOrder : Type 0
+LentInOrder = (key lent : List ℕ) (n : ℕ) (out : List ℕ) → LentOrdered key lent n out
 
 -- a full turn on any bytes that hold a whole holder, whether gordzila_holder_make wrote them or not
 unfoldable pub BytesTurnHome : Type 0

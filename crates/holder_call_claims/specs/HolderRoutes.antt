@@ -68,7 +68,7 @@ startOf key = record { key = key; number = 0 }
 abbrev pub moved : Place → ℕ → Place
 moved p n = record { key = p .key; number = n }
 
--- only the making from a key of a wrong length and the walk to 6t or more leave it where it is, with the request for the subkey
+-- refused calls, which are the making from a key of a wrong length and the walk to 6t or more, and the request for the subkey leave it where it is
 unfoldable pub placeAfter : HolderCall → Place → Place
 placeAfter (make key) p = cond (keyLength (length key)) (startOf key) p
 placeAfter forward p = moved p (following (tAt p) (p .number))

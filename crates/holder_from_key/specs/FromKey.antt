@@ -22,7 +22,7 @@ madeHolder key = answered (makeNumber key) (holderAt key 0) blank
 -- ---- give a stage straight from key and number
 -- for a key of so many bytes
 abbrev pub straightTries : ℕ → ℕ → List Try
-straightTries length n = (1 unless keyLength length) ∷ (5 unless ltb n (turn (tOf length))) ∷ []
+straightTries key-bytes n = (1 unless keyLength key-bytes) ∷ (5 unless ltb n (turn (tOf key-bytes))) ∷ []
 
 abbrev pub straightNumber : List ℕ → ℕ → ℕ
 straightNumber key n = first (straightTries (length key) n)

@@ -14,6 +14,7 @@ use Rattle.holder.specs.Holder.{whole, stepped}
 abbrev pub holderTries : Holder → List Try
 holderTries h = (24 unless whole h) ∷ []
 
+-- the number of a refusal to step or to give the subkey, or 0: not the number of a stage
 abbrev pub holderNumber : Holder → ℕ
 holderNumber h = first (holderTries h)
 

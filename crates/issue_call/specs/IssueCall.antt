@@ -10,7 +10,7 @@ use Rattle.issuing.specs.Issuing.{wantedTries, issuedGrant}
 
 abbrev pub issueCallTries : List ℕ → ℕ → List ℕ → ℕ → ℕ → ℕ → List ℕ → List Try
 issueCallTries key rounds roll contractor size-block right out =
-    (settingsTries (length key) rounds ++ rollTries (length roll)) ++ wantedTries (length out) contractor right (entryOf (rollOf roll) contractor)
+    (settingsTries (length key) rounds ++ rollTries (length roll)) ++ wantedTries (length out) contractor size-block right (entryOf (rollOf roll) contractor)
 
 abbrev pub issueCallNumber : List ℕ → ℕ → List ℕ → ℕ → ℕ → ℕ → List ℕ → ℕ
 issueCallNumber key rounds roll contractor size-block right out = first (issueCallTries key rounds roll contractor size-block right out)

@@ -20,7 +20,7 @@ pub fn issue(
     let settings = settings::try_settings(key.len(), rounds);
     let long = roll_bytes::try_roll(settings, roll.len());
     let entry = roll_bytes::entry_in(roll, contractor);
-    let tried = issuing::try_issue(long, out.len(), contractor, right, entry);
+    let tried = issuing::try_issue(long, out.len(), contractor, size_block, right, entry);
     if refusal::is_refused(tried) {
         return refusal::outcome_number(tried);
     }

@@ -19,16 +19,26 @@ use rights::is_right;
 use rights::within_highest;
 use roll::Entry;
 use roll::Roll;
+use size_blocks::is_size_block;
 
-// What is tried after settings and lengths: the room for the grant, the contractor, the right, the standing, and the right against the highest.
-pub fn try_issue(prior: Outcome, room: usize, contractor: u32, right: u32, entry: Entry) -> Outcome
-    ensures { λ r. ⌜ outcomeNumber r ≡ after (outcomeNumber prior) (wantedTries room contractor right «entry») ⌝ }
+// What is tried after settings and lengths: the room for the grant, the contractor, the right, the size block, the standing, and the right against
+// the highest.
+pub fn try_issue(
+    prior: Outcome,
+    room: usize,
+    contractor: u32,
+    size_block: u32,
+    right: u32,
+    entry: Entry,
+) -> Outcome
+    ensures { λ r. ⌜ outcomeNumber r ≡ after (outcomeNumber prior) (wantedTries room contractor «size_block» right «entry») ⌝ }
 {
     let fits = unless(prior, Reason::OutputTooShort, 12 <= room);
     let known = unless(fits, Reason::Contractor, roll::is_contractor(contractor));
     let asked = unless(known, Reason::UnknownRight, is_right(right));
+    let some = unless(asked, Reason::BlockZero, is_size_block(size_block));
     let stands = unless(
-        asked,
+        some,
         Reason::NotInStanding,
         roll::is_in_standing(entry.count),
     );
@@ -75,7 +85,7 @@ pub fn issue(
 {
     let entry = roll::entry_of(roll, contractor);
     let settings = settings::try_settings(key.len(), rounds);
-    let tried = try_issue(settings, out.len(), contractor, right, entry);
+    let tried = try_issue(settings, out.len(), contractor, size_block, right, entry);
     if refusal::is_refused(tried) {
         return tried;
     }

@@ -1,2 +1,3 @@
 pub mod Verdicts
+pub mod Passed
 pub mod KnownAnswers

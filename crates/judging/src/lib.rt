@@ -21,14 +21,16 @@ use rights::is_right;
 use rights::right_of;
 use rights::within_highest;
 use roll::Entry;
+use size_blocks::is_size_block;
 
-// Settings, lengths, and the right that is asked for.
-pub fn try_input(n: usize, rounds: u32, lengths: bool, right: u32) -> Outcome
-    ensures { λ r. ⌜ outcomeNumber r ≡ first (inputTries n rounds lengths right) ⌝ }
+// Settings, lengths, and the right and the size block that are asked for.
+pub fn try_input(n: usize, rounds: u32, lengths: bool, size_block: u32, right: u32) -> Outcome
+    ensures { λ r. ⌜ outcomeNumber r ≡ first (inputTries n rounds lengths «size_block» right) ⌝ }
 {
     let settings = settings::try_settings(n, rounds);
     let whole = unless(settings, Reason::InputLength, lengths);
-    unless(whole, Reason::UnknownRight, is_right(right))
+    let asked = unless(whole, Reason::UnknownRight, is_right(right));
+    unless(asked, Reason::BlockZero, is_size_block(size_block))
 }
 
 // What was asked for: the size block, then a right that the grant's covers.
@@ -56,7 +58,8 @@ pub fn try_standing(prior: Outcome, p: &[u8; 12], entry: Entry, right: u32) -> O
     )
 }
 
-// The verdict on a grant's plain bytes, where the roll has this entry for its contractor.
+// The verdict on a grant's plain bytes, where the roll has this entry for its contractor. The input has to be tried before: size block 0 is refused
+// there, and not here.
 pub fn judge(p: &[u8; 12], entry: Entry, size_block: u32, right: u32) -> Verdict
     ensures { λ r. ⌜ verdictNumber r ≡ judgedNumber (now (p .entry)) «entry» «size_block» right ⌝ }
     ensures { λ r. ⌜ verdictContractor r ≡ judgedContractor (now (p .entry)) «entry» «size_block» right ⌝ }

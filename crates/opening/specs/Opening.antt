@@ -1,5 +1,5 @@
 -- Opening a page: request 3, "opening tries 1, 2, 4 .., 11 .., 13 (check differs) and then 11 again". A call is given two keys, a round count, the
--- page, the scratch and the output.
+-- page, the scratch and the output. No size block is refused: pages that were sealed for 0 before request 7 open.
 use mathlib.Core.Bool.{_&&_}
 use mathlib.Core.List.{List, [], _∷_, _++_}
 use Prim.Native.Nat.{ℕ}

@@ -10,12 +10,13 @@ use Rattle.stages.specs.Columns.{columns, plus, columnRule}
 use Rattle.stages.specs.Stages.{moved, linearStep, constant, stage}
 use Rattle.key_lists.specs.KeyLists.{subkeys, listFor}
 use Rattle.key_pairs.specs.KeyPairs.{arePair}
+use Rattle.size_blocks.specs.SizeBlocks.{isSizeBlock}
 use Rattle.block_bytes.specs.Blocks.{listStates, listBytes}
 use Rattle.chaining.specs.Chaining.{chained, unchained, lastOf, chainedBytes, unchainedBytes, lastChained}
 use Rattle.byte_slices.specs.Slices.{allZero, sameBytes}
 use Rattle.pages.specs.Pages.{stored, checkOver, pageOf, pageForm, payloadIn, checkAgrees, unusedZero}
 use Rattle.page_cases.specs.KnownAnswers.{mixed, unmixed, payloadFor, pageWith, ends, foundIn, altered, sealedOver, padded}
-use Rattle.page_cases.specs.KnownAnswers.{knownAnswers, alteredAnswers, paddedAnswers, orderAnswers, chainAnswers}
+use Rattle.page_cases.specs.KnownAnswers.{knownAnswers, alteredAnswers, paddedAnswers, orderAnswers, zeroAnswers, chainAnswers}
 
 pub known-answers : Hold knownAnswers
 unfolding knownAnswers mixed payloadFor pageWith ends listedFrom listStates listBytes chained lastOf chainedBytes lastChained stored
@@ -35,8 +36,14 @@ unfolding paddedAnswers padded mixed unmixed payloadFor pageWith foundIn sealedO
 padded-answers = holds paddedAnswers refl
 
 pub order-answers : Hold orderAnswers
-unfolding orderAnswers arePair sameBytes allZero pageForm first
+unfolding orderAnswers arePair isSizeBlock sameBytes allZero pageForm first
 order-answers = holds orderAnswers refl
+
+pub zero-answers : Hold zeroAnswers
+unfolding zeroAnswers arePair isSizeBlock mixed unmixed payloadFor pageWith foundIn listedFrom listStates listBytes
+    chained unchained lastOf chainedBytes unchainedBytes lastChained
+    allZero sameBytes stored checkOver pageOf pageForm payloadIn checkAgrees unusedZero first
+zero-answers = holds zeroAnswers refl
 
 pub chain-answers : Hold chainAnswers
 unfolding chainAnswers listedFrom listStates listBytes chained chainedBytes subkeys listFor enciphered rounds round lastRound

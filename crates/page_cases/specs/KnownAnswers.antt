@@ -50,13 +50,20 @@ foundIn a b page =
 unfoldable pub altered : List ℕ → List ℕ → ℕ → ℕ → ℕ → ℕ → ℕ → ℕ
 altered a b block number used index value = foundIn a b (set (pageWith a b block number used) index value)
 
--- in one whose payload had another byte before it was chained, so that the check is right
+-- in one whose payload had another byte before it was chained, so that the check agrees
 unfoldable pub sealedOver : List ℕ → List ℕ → List ℕ → List ℕ → List ℕ
 sealedOver a b head payload = stored (mixed a) head payload ++ checkOver (mixed b) (stored (mixed a) head payload)
 
 unfoldable pub padded : List ℕ → List ℕ → ℕ → ℕ → ℕ → ℕ → ℕ → ℕ
 padded a b block number used index value =
     foundIn a b (sealedOver a b (header block number used) (set (filled (payloadFor used)) index value))
+
+-- the sealing of a page for a size block; and the opening of one, made for it as the definition has it
+abbrev pub sealFor : ℕ → List ℕ
+sealFor block = sealNumber pairKey12 byA 10 block [] (replicate 576 0) (replicate 512 0) ∷ []
+
+abbrev pub openFor : ℕ → List ℕ
+openFor block = foundIn byA byB (pageWith byA byB block 1286 17) ∷ []
 
 unfoldable pub knownAnswers : List Case
 knownAnswers =
@@ -166,11 +173,15 @@ paddedAnswers =
 unfoldable pub orderAnswers : List Case
 orderAnswers =
     -- order seal 1 2
-    ((sealNumber pairKey12 pairKey12 12 [] (replicate 576 0) (replicate 512 0) ∷ []) is (1 ∷ []))
+    ((sealNumber pairKey12 pairKey12 12 300 [] (replicate 576 0) (replicate 512 0) ∷ []) is (1 ∷ []))
     -- order seal 2 4
-    ∷ ((sealNumber pairKey12 byA 12 [] (replicate 575 0) (replicate 512 0) ∷ []) is (2 ∷ []))
+    ∷ ((sealNumber pairKey12 byA 12 300 [] (replicate 575 0) (replicate 512 0) ∷ []) is (2 ∷ []))
     -- order seal 4 12
-    ∷ ((sealNumber pairKey12 byA 10 (replicate 493 0) (replicate 576 0) (replicate 511 0) ∷ []) is (4 ∷ []))
+    ∷ ((sealNumber pairKey12 byA 10 300 (replicate 493 0) (replicate 576 0) (replicate 511 0) ∷ []) is (4 ∷ []))
+    -- order seal 4 14
+    ∷ ((sealNumber pairKey12 byA 10 0 [] (replicate 575 0) (replicate 512 0) ∷ []) is (4 ∷ []))
+    -- order seal 14 12
+    ∷ ((sealNumber pairKey12 byA 10 0 (replicate 493 0) (replicate 576 0) (replicate 512 0) ∷ []) is (14 ∷ []))
     -- order open 1 2
     ∷ ((first (openInputTries pairKey12 pairKey18 12 (replicate 512 0) (replicate 576 0) (replicate 492 0)) ∷ []) is (1 ∷ []))
     -- order open 2 4
@@ -178,8 +189,45 @@ orderAnswers =
     -- order open 4 11
     ∷ ((first (openInputTries pairKey12 byA 10 (replicate 511 0) (replicate 575 0) (replicate 492 0)) ∷ []) is (4 ∷ []))
     -- none where there is just room enough, and the payload and the page have their greatest length
-    ∷ ((sealNumber pairKey12 byA 10 (replicate 492 0) (replicate 576 0) (replicate 512 0) ∷ []) is (0 ∷ []))
+    ∷ ((sealNumber pairKey12 byA 10 300 (replicate 492 0) (replicate 576 0) (replicate 512 0) ∷ []) is (0 ∷ []))
     ∷ ((first (openInputTries pairKey12 byA 10 (replicate 512 0) (replicate 576 0) (replicate 492 0)) ∷ []) is (0 ∷ []))
+    ∷ []
+
+-- request 7: which size blocks are refused by sealing, whatever their lowest bytes are, and by opening none; and 14 with each other reason of sealing
+unfoldable pub zeroAnswers : List Case
+zeroAnswers =
+    -- sized seal 0
+    (sealFor 0 is (14 ∷ []))
+    -- sized seal 1
+    ∷ (sealFor 1 is (0 ∷ []))
+    -- sized seal 256
+    ∷ (sealFor 256 is (0 ∷ []))
+    -- sized seal 65536
+    ∷ (sealFor 65536 is (0 ∷ []))
+    -- sized seal 16777216
+    ∷ (sealFor 16777216 is (0 ∷ []))
+    -- sized seal 4294967295
+    ∷ (sealFor 4294967295 is (0 ∷ []))
+    -- sized open 0
+    ∷ (openFor 0 is (0 ∷ []))
+    -- sized open 1
+    ∷ (openFor 1 is (0 ∷ []))
+    -- sized open 256
+    ∷ (openFor 256 is (0 ∷ []))
+    -- sized open 65536
+    ∷ (openFor 65536 is (0 ∷ []))
+    -- sized open 16777216
+    ∷ (openFor 16777216 is (0 ∷ []))
+    -- sized open 4294967295
+    ∷ (openFor 4294967295 is (0 ∷ []))
+    -- both seal 1 14
+    ∷ ((sealNumber pairKey12 pairKey12 10 0 [] (replicate 576 0) (replicate 512 0) ∷ []) is (1 ∷ []))
+    -- both seal 2 14
+    ∷ ((sealNumber pairKey12 byA 12 0 [] (replicate 576 0) (replicate 512 0) ∷ []) is (2 ∷ []))
+    -- both seal 4 14
+    ∷ ((sealNumber pairKey12 byA 10 0 [] (replicate 576 0) (replicate 511 0) ∷ []) is (4 ∷ []))
+    -- both seal 14 12
+    ∷ ((sealNumber pairKey12 byA 10 0 (replicate 493 0) (replicate 576 0) (replicate 512 0) ∷ []) is (14 ∷ []))
     ∷ []
 
 -- two blocks chained with the cipher itself

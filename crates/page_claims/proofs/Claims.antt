@@ -16,15 +16,16 @@ use Rattle.sealing.specs.Sealing.{sealTries, sealNumber, sealOutput, sealScratc
 use Rattle.opening.specs.Opening.{openInputTries, contentTries, openTries, openNumber, openOutput, openScratch}
 use Rattle.open_call.specs.OpenCall.{headerCode, openCode, openCallCode}
 use Rattle.page_claims.specs.Claims.{PagesInOrder, RefusedPageKeeps, ScratchSealed, ScratchOpened, ScratchIsCleared, SealsExactlyWhen}
-use Rattle.page_claims.specs.Claims.{PageOpensExactlyWhen, GivesBack, OpensWhatWasSealed, OpenedPageIsASeal, CodeTells, OpenCodeTells}
+use Rattle.page_claims.specs.Claims.{PageOpensExactlyWhen, GivesBack, OpensWhatWasSealed, OpensWhatACallSealed, OpenedPageIsASeal, CodeTells}
+use Rattle.page_claims.specs.Claims.{OpenCodeTells}
 use Rattle.page_claims.proofs.Pages.{seals, seals-when, opens, opens-when, is-seal, gives-back, wrote-page}
 use Rattle.page_claims.proofs.Codes.{code-block, code-number, code-used, code-most}
 
 -- ---- refusals
 pub pages-in-order : PagesInOrder
 unfolding PagesInOrder
-pages-in-order key₁ key₂ rounds payload page scratch out =
-    (ordered (sealTries key₁ key₂ rounds payload scratch out) refl, ordered (openTries key₁ key₂ rounds page scratch out) refl)
+pages-in-order key₁ key₂ rounds block payload page scratch out =
+    (ordered (sealTries key₁ key₂ rounds block payload scratch out) refl, ordered (openTries key₁ key₂ rounds page scratch out) refl)
 
 pub refused-page-keeps : RefusedPageKeeps
 unfolding RefusedPageKeeps sealOutput openOutput
@@ -78,31 +79,31 @@ module _ (key₁ key₂ : List ℕ) (rounds : ℕ) (page scratch out : List ℕ)
       let hb : block < 4294967296 = omega (arith, b 0, b 1, b 2, b 3) in
       let hn : n < 65536 = omega (arith, b 4, b 5) in
       let hu : number ≡ 0 → used < 32768 = λ e. omega (arith, opens key₁ key₂ rounds page scratch out e .1 .1 .1 .used) in
-      let most : number < 25 = first-small 25 (openTries key₁ key₂ rounds page scratch out) refl in
+      let most : number < 14 = first-small 14 (openTries key₁ key₂ rounds page scratch out) refl in
       record {
-        refused = λ h. (not-done h, subst (λ (k : ℕ). k ≤ 24) (sym (not-done h)) (omega (arith, most)));
+        refused = λ h. (not-done h, subst (λ (k : ℕ). k ≤ 13) (sym (not-done h)) (omega (arith, most)));
         opened = λ e. subst (λ (k : ℕ). 9223372036854775808 ≤ k) (sym (done e)) (code-most block n used);
         size-block = λ e. ap (λ (k : ℕ). k % 4294967296) (done e) ∙ code-block block n used hb hn (hu e);
         page-number = λ e. ap (λ (k : ℕ). k / 4294967296 % 65536) (done e) ∙ code-number block n used hb hn (hu e);
         used = λ e. ap (λ (k : ℕ). k / 281474976710656 % 32768) (done e) ∙ code-used block n used hb hn (hu e);
       }
 
-scratch-sealed : (key₁ key₂ : List ℕ) (rounds : ℕ) (payload scratch out : List ℕ) → ScratchSealed key₁ key₂ rounds payload scratch out
+scratch-sealed : (key₁ key₂ : List ℕ) (rounds block : ℕ) (payload scratch out : List ℕ) → ScratchSealed key₁ key₂ rounds block payload scratch out
 unfolding sealScratch
-scratch-sealed key₁ key₂ rounds payload scratch out =
-    let n = sealNumber key₁ key₂ rounds payload scratch out in
+scratch-sealed key₁ key₂ rounds block payload scratch out =
+    let n = sealNumber key₁ key₂ rounds block payload scratch out in
     record { done = λ e. clears n scratch e; refused = λ h. sym (kept n cleared scratch h) }
 
 pub scratch-is-cleared : ScratchIsCleared
 unfolding ScratchIsCleared
-scratch-is-cleared key₁ key₂ rounds payload page scratch out =
-    (scratch-sealed key₁ key₂ rounds payload scratch out, scratch-opened key₁ key₂ rounds page scratch out)
+scratch-is-cleared key₁ key₂ rounds block payload page scratch out =
+    (scratch-sealed key₁ key₂ rounds block payload scratch out, scratch-opened key₁ key₂ rounds page scratch out)
 
 -- ---- when a page is sealed, and when it opens
 pub seals-exactly-when : SealsExactlyWhen
 unfolding SealsExactlyWhen
-seals-exactly-when key₁ key₂ rounds payload scratch out =
-    (seals key₁ key₂ rounds payload scratch out, seals-when key₁ key₂ rounds payload scratch out)
+seals-exactly-when key₁ key₂ rounds block payload scratch out =
+    (seals key₁ key₂ rounds block payload scratch out, seals-when key₁ key₂ rounds block payload scratch out)
 
 pub page-opens-exactly-when : PageOpensExactlyWhen
 unfolding PageOpensExactlyWhen
@@ -112,12 +113,17 @@ page-opens-exactly-when key₁ key₂ rounds page scratch out =
 -- ---- sealed and opened
 pub opens-what-was-sealed : OpensWhatWasSealed
 unfolding OpensWhatWasSealed
-opens-what-was-sealed key₁ key₂ bk rounds block number hb hn payload bp scratch out e scratch′ out′ hs ho =
-    let s = seals key₁ key₂ rounds payload scratch out e in
-    let fits = s .1 .1 .1 in
+opens-what-was-sealed key₁ key₂ bk rounds s block number hb hn payload bp fits scratch out hs ho =
+    gives-back key₁ key₂ bk rounds block number hb hn payload bp s fits scratch out hs ho
+
+pub opens-what-a-call-sealed : OpensWhatACallSealed
+unfolding OpensWhatACallSealed OpensWhatWasSealed
+opens-what-a-call-sealed key₁ key₂ bk rounds block number hb hn payload bp scratch out e scratch′ out′ hs ho =
+    let s = seals key₁ key₂ rounds block payload scratch out e in
+    let fits = s .1 .1 .1 .1 in
     subst (λ (p : List ℕ). GivesBack key₁ key₂ rounds block number payload p scratch′ out′)
     (sym (wrote-page key₁ key₂ rounds block number payload scratch out e fits))
-    (gives-back key₁ key₂ bk rounds block number hb hn payload bp (s .0) fits scratch′ out′ hs ho)
+    (opens-what-was-sealed key₁ key₂ bk rounds (s .0) block number hb hn payload bp fits scratch′ out′ hs ho)
 
 pub opened-page-is-a-seal : OpenedPageIsASeal
 unfolding OpenedPageIsASeal

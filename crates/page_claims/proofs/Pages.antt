@@ -10,12 +10,13 @@ use lib.Seq.{length-take-le, take-append-le}
 use borrow.Author.Tests.{eq-eqb, eqb-true, le-leb, leb-true}
 use Rattle.basics.specs.Bytes.{AreBytes}
 use Rattle.basics.proofs.Tests.{and-first, and-second}
-use Rattle.refusal.proofs.Tries.{none-given}
+use Rattle.refusal.proofs.Tries.{none-given, first-passes, first-holds}
 use Rattle.refusal.proofs.Ladder.{all-pass}
 use Rattle.refusal.proofs.Answers.{put, starts, is-answered}
 use Rattle.byte_slices.specs.Slices.{allZero}
 use Rattle.byte_slices.proofs.Zeros.{zeros, zeros-are}
 use Rattle.byte_slices.proofs.Equal.{same-equal, equal-same}
+use Rattle.size_blocks.proofs.SizeBlocks.{is-size-block, zero-is-none, other-than-zero}
 use Rattle.pages.specs.Pages.{usedIn, blockIn, pageNumberIn, pageForm, checkOver, checkAgrees, unusedZero, filled}
 use Rattle.pages.specs.Keyed.{enciphering, deciphering}
 use Rattle.pages.proofs.Lengths.{length-payload, length-page, length-filled}
@@ -28,19 +29,28 @@ use Rattle.page_claims.proofs.Settings.{both-rooms, rooms-both, is-sett
 use Rattle.page_claims.proofs.Restored.{opened-payload, opened-block, opened-number, opened-used, sealed-form, sealed-check, sealed-unused, page-again}
 
 -- ---- sealing
-module _ (key₁ key₂ : List ℕ) (rounds : ℕ) (payload scratch out : List ℕ) where
-  pub seals : sealNumber key₁ key₂ rounds payload scratch out ≡ 0
-      → PageSettings key₁ key₂ rounds × ((576 ≤ length scratch) × ((512 ≤ length out) × (length payload ≤ 492)))
+module _ (key₁ key₂ : List ℕ) (rounds block : ℕ) (payload scratch out : List ℕ) where
+  pub seals : sealNumber key₁ key₂ rounds block payload scratch out ≡ 0
+      → PageSettings key₁ key₂ rounds × ((576 ≤ length scratch) × ((512 ≤ length out) × ((block ≡ 0 → ⊥) × (length payload ≤ 492))))
   seals e =
-      let p = all-pass (sealTries key₁ key₂ rounds payload scratch out) refl e in
+      let p = all-pass (sealTries key₁ key₂ rounds block payload scratch out) refl e in
       let r = rooms-both 576 512 (length scratch) (length out) (p .1 .1 .0) in
-      (is-settings key₁ key₂ rounds (p .0) (p .1 .0), (r .0, (r .1, leb-true (length payload) 492 (p .1 .1 .1 .0))))
+      let q = p .1 .1 .1 in
+      (is-settings key₁ key₂ rounds (p .0) (p .1 .0), (r .0, (r .1, (other-than-zero block (q .0), leb-true (length payload) 492 (q .1 .0)))))
 
-  pub seals-when : PageSettings key₁ key₂ rounds → 576 ≤ length scratch → 512 ≤ length out → length payload ≤ 492
-      → sealNumber key₁ key₂ rounds payload scratch out ≡ 0
-  seals-when s hs ho hp =
-      none-given (sealTries key₁ key₂ rounds payload scratch out)
-      (are-pair key₁ key₂ rounds s, (s .round-count, (both-rooms 576 512 (length scratch) (length out) hs ho, (le-leb (length payload) 492 hp, tt))))
+  pub seals-when : PageSettings key₁ key₂ rounds → 576 ≤ length scratch → 512 ≤ length out → (block ≡ 0 → ⊥) → length payload ≤ 492
+      → sealNumber key₁ key₂ rounds block payload scratch out ≡ 0
+  seals-when s hs ho hb hp =
+      let room = both-rooms 576 512 (length scratch) (length out) hs ho in
+      none-given (sealTries key₁ key₂ rounds block payload scratch out)
+      (are-pair key₁ key₂ rounds s, (s .round-count, (room, (is-size-block block hb, (le-leb (length payload) 492 hp, tt)))))
+
+  -- and is refused with 14 for size block 0, however long the payload is
+  pub fourteen : PageSettings key₁ key₂ rounds → 576 ≤ length scratch → 512 ≤ length out → block ≡ 0
+      → sealNumber key₁ key₂ rounds block payload scratch out ≡ 14
+  fourteen s hs ho e =
+      first-passes _ _ (are-pair key₁ key₂ rounds s) ∙ first-passes _ _ (s .round-count)
+      ∙ first-passes _ _ (both-rooms 576 512 (length scratch) (length out) hs ho) ∙ first-holds _ _ (zero-is-none block e)
 
 -- ---- opening
 module _ (key₁ key₂ : List ℕ) (rounds : ℕ) (page : List ℕ) where
@@ -137,13 +147,16 @@ module _ (key₁ key₂ : List ℕ) (rounds : ℕ) (page : List ℕ) where
         let o = opens e in
         let g = gave e in
         let used = take (usedIn page) (openedPayload key₁ rounds page) in
+        let block = openedBlock key₁ key₂ rounds page scratch out in
         let fits : length used ≤ 492 = omega (arith, length-take (usedIn page) (openedPayload key₁ rounds page), o .1 .1 .1 .used) in
         record {
           same = was-sealed bk bp e
               ∙ ap₂ (λ (b m : ℕ). sealed key₁ key₂ rounds b m used) (is-answered n (blockIn page) 0 e) (is-answered n (pageNumberIn page) 0 e)
               ∙ ap (sealed key₁ key₂ rounds (openedBlock key₁ key₂ rounds page scratch out) (openedPageNumber key₁ key₂ rounds page scratch out)) (sym g);
-          accepted = λ s o′ hs ho.
-              subst (λ (x : List ℕ). sealNumber key₁ key₂ rounds x s o′ ≡ 0) (sym g) (seals-when key₁ key₂ rounds used s o′ (o .0) hs ho fits);
+          accepted = λ hb s o′ hs ho.
+              subst (λ (x : List ℕ). sealNumber key₁ key₂ rounds block x s o′ ≡ 0) (sym g) (seals-when key₁ key₂ rounds block used s o′ (o .0) hs ho hb fits);
+          block-zero = λ z s o′ hs ho.
+              subst (λ (x : List ℕ). sealNumber key₁ key₂ rounds block x s o′ ≡ 14) (sym g) (fourteen key₁ key₂ rounds block used s o′ (o .0) hs ho z);
         }
 
 -- ---- sealed and opened
@@ -201,12 +214,12 @@ module _ (key₁ key₂ : List ℕ) (bk : AreBytes key₁) (rounds block number 
       }
 
 -- the page that a call wrote
-pub wrote-page : (key₁ key₂ : List ℕ) (rounds block number : ℕ) (payload scratch out : List ℕ) → sealNumber key₁ key₂ rounds payload scratch out ≡ 0
+pub wrote-page : (key₁ key₂ : List ℕ) (rounds block number : ℕ) (payload scratch out : List ℕ) → sealNumber key₁ key₂ rounds block payload scratch out ≡ 0
     → length payload ≤ 492
     → take 512 (sealOutput key₁ key₂ rounds block number payload scratch out) ≡ sealed key₁ key₂ rounds block number payload
 unfolding sealOutput sealed
 wrote-page key₁ key₂ rounds block number payload scratch out e fits =
-    let n = sealNumber key₁ key₂ rounds payload scratch out in
+    let n = sealNumber key₁ key₂ rounds block payload scratch out in
     let p = sealed key₁ key₂ rounds block number payload in
     let l = length-page (enciphering key₁ rounds) (enciphering key₂ rounds) block number payload fits in
     ap (λ (m : ℕ). take m (written n p out)) (sym l) ∙ starts n p out e .1

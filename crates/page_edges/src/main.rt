@@ -13,11 +13,11 @@ fn second_bytes(same: usize) -> [u8; 32] {
     if same == 1 { [7u8; 32] } else { [9u8; 32] }
 }
 
-// The steps in which a page is made, for size block 300 and page 7.
-fn laid_out(payload: &[u8], page: &mut [u8]) {
+// The steps in which a page is made, for page 7 of a size block. None of them refuses size block 0.
+fn laid_out(block: u32, payload: &[u8], page: &mut [u8]) {
     if payload.len() == 492 {
         if page.len() == 512 {
-            page_steps::lay_out(300, 7, payload, page);
+            page_steps::lay_out(block, 7, payload, page);
         }
     }
 }
@@ -49,9 +49,9 @@ fn payload(pad: u8, spot: usize) -> [u8; 492] {
 
 // A page with such a payload and any used count, with bytes behind it: laid out as one that is used to its last byte, with the count then put in, so
 // that it is chained and checked as it stands.
-fn page(payload: &[u8; 492], count: usize) -> [u8; 520] {
+fn page(block: u32, payload: &[u8; 492], count: usize) -> [u8; 520] {
     let mut page = [0u8; 512];
-    laid_out(payload, &mut page);
+    laid_out(block, payload, &mut page);
     page[6] = (count / 256 % 256) as u8;
     page[7] = (count % 256) as u8;
     let mut room = [0u8; 576];
@@ -110,7 +110,7 @@ fn tell_scratch(scratch: &[u8]) {
 }
 
 // What was sealed opens, with the numbers and the payload that were sealed, and nothing was written after it.
-fn opens_again(k: usize, rounds: u32, page: &[u8], used: usize) -> bool {
+fn opens_again(k: usize, rounds: u32, size_block: u32, page: &[u8], used: usize) -> bool {
     let mut scratch = [0u8; 576];
     let mut out = [MARK; 520];
     let opened = opening::open(
@@ -128,7 +128,7 @@ fn opens_again(k: usize, rounds: u32, page: &[u8], used: usize) -> bool {
     if refusal::is_refused(outcome) {
         return false;
     }
-    if block != 300 {
+    if block != size_block {
         return false;
     }
     if number != 7 {
@@ -149,6 +149,7 @@ fn seal_line() {
     let l = printing::echo();
     let second = second_bytes(printing::echo());
     let rounds = printing::echo_u32();
+    let block = printing::echo_u32();
     let used = printing::echo();
     let s = printing::echo();
     let o = printing::echo();
@@ -158,14 +159,17 @@ fn seal_line() {
         first(&[7u8; 32], k),
         first(&second, l),
         rounds,
-        300,
+        block,
         7,
         first(&[3u8; 520], used),
         first_mut(&mut scratch, s),
         first_mut(&mut out, o),
     );
     printing::number(refusal::outcome_number(answer) as u64);
-    tell_output(opens_again(k, rounds, &out, used), all_marks(&out, 0, MARK));
+    tell_output(
+        opens_again(k, rounds, block, &out, used),
+        all_marks(&out, 0, MARK),
+    );
     tell_scratch(&scratch);
 }
 
@@ -176,10 +180,11 @@ fn open_line() {
     let second = second_bytes(printing::echo());
     let rounds = printing::echo_u32();
     let n = printing::echo();
+    let size_block = printing::echo_u32();
     let count = printing::echo();
     let pad = (printing::echo() % 256) as u8;
     let sealed = payload(pad, printing::echo());
-    let mut bytes = page(&sealed, count);
+    let mut bytes = page(size_block, &sealed, count);
     let place = printing::echo() % 512;
     let change = (printing::echo() % 256) as u8;
     bytes[place] = bytes[place] ^ change;

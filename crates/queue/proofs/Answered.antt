@@ -1,10 +1,10 @@
 -- Over a key's own list the answers are the numbers of the single checks; and what the calls of a queue have to show.
 use mathlib.Core.Path.{_≡_, sym, ap, _∙_, subst}
 use mathlib.Core.Bool.{Bool, true}
-use mathlib.Core.List.{List, _++_}
+use mathlib.Core.List.{List, [], _++_}
 use Prim.Native.Nat.{ℕ, _+_, _*_, _≤_, _<_}
 use native.Mathlib.Omega.{arith}
-use lib.Dec.{eqb, leb}
+use lib.Dec.{eqb}
 use lib.ListN.{length, take, drop, length-append, take-append-drop}
 use lib.Seq.{ext-getD, take-at}
 use borrow.Author.Tests.{eq-eqb, leb-true}
@@ -26,13 +26,16 @@ use Rattle.cipher.proofs.Claims.{engine-runs-prepared}
 use Rattle.list_rounds.proofs.Lists.{accepted}
 use Rattle.roll.specs.declared.Roll.{Roll}
 use Rattle.roll.specs.Roll.{entryOf}
+use Rattle.size_blocks.specs.SizeBlocks.{isSizeBlock}
 use Rattle.rights.specs.Rights.{isRight}
 use Rattle.grant.specs.Grants.{contractorIn}
 use Rattle.judging.specs.Judging.{inputTries, plainTries, judgedNumber}
+use Rattle.judging.proofs.Passed.{input-passes}
 use Rattle.checking.specs.Checking.{openedGrant, entryNow, checkNumber}
 use Rattle.queue_parts.specs.QueueParts.{grantsIn, grantAt, queueInputTries}
 use Rattle.queue_parts.specs.ForProver.{Answerable, numberOver}
 use Rattle.queue_parts.proofs.Answers.{grant-length}
+use Rattle.queue_parts.proofs.Passed.{QueuePassed}
 use Rattle.queue.specs.Queue.{queueAnswers}
 
 -- lists that agree at each place
@@ -46,22 +49,25 @@ pub length-answers : (key : List ℕ) (rounds : ℕ) (roll : Roll) (grants : Lis
 unfolding queueAnswers
 length-answers key rounds roll grants block right = length-listed (grantsIn (length grants)) _
 
--- where a key, a round count, a right and a grant's length were tried, a check of the grant gives what is tried of its plain bytes
+-- where a key, a round count, a size block, a right and a grant's length were tried, a check of the grant gives what is tried of its plain bytes
 pub tried-once : (key : List ℕ) (rounds : ℕ) (roll : Roll) (grant : List ℕ) (block right : ℕ)
-    → keyLength (length key) ≡ true → roundsAllowed (length key) rounds ≡ true → isRight right ≡ true → length grant ≡ 12
+    → keyLength (length key) ≡ true → roundsAllowed (length key) rounds ≡ true → isRight right ≡ true → isSizeBlock block ≡ true → length grant ≡ 12
     → checkNumber key rounds roll grant block right ≡ judgedNumber (openedGrant key rounds grant) (entryNow key rounds roll grant) block right
-tried-once key rounds roll grant block right k r asked twelve =
-    first-then (inputTries (length key) rounds (eqb (length grant) 12) right)
-    (plainTries (openedGrant key rounds grant) (entryNow key rounds roll grant) block right) (k, (r, (eq-eqb (length grant) 12 twelve, (asked, tt))))
+tried-once key rounds roll grant block right k r asked some twelve =
+    first-then (inputTries (length key) rounds (eqb (length grant) 12) block right)
+    (plainTries (openedGrant key rounds grant) (entryNow key rounds roll grant) block right)
+    (input-passes (length key) rounds (eqb (length grant) 12) block right []
+    record { key-length = k; round-count = r; long = eq-eqb (length grant) 12 twelve; asked = asked; some-block = some } tt)
 
-module _ (key : List ℕ) (rounds : ℕ) (s : Settings key rounds) (roll : Roll) (block right : ℕ) (asked : isRight right ≡ true) where
+module _ (key : List ℕ) (rounds : ℕ) (s : Settings key rounds) (roll : Roll) (block right : ℕ)
+    (asked : isRight right ≡ true) (some : isSizeBlock block ≡ true) where
   -- a grant opened over the key's list is judged as if it were checked alone
   alone : (grant : List ℕ) → length grant ≡ 12
       → numberOver (prepared Deciphering key rounds) roll block right grant ≡ checkNumber key rounds roll grant block right
   unfolding numberOver openedGrant EngineRunsPrepared
   alone grant twelve =
       ap (λ (p : List ℕ). judgedNumber p (entryOf roll (contractorIn p)) block right) (engine-runs-prepared Deciphering key rounds grant s)
-      ∙ sym (tried-once key rounds roll grant block right (s .length-allowed) (s .rounds-allowed) asked twelve)
+      ∙ sym (tried-once key rounds roll grant block right (s .length-allowed) (s .rounds-allowed) asked some twelve)
 
   pub answered-alone : (grants list : List ℕ) → list ≡ prepared Deciphering key rounds
       → listedFrom 0 (grantsIn (length grants)) (λ i. numberOver list roll block right (grantAt grants i))
@@ -72,26 +78,25 @@ module _ (key : List ℕ) (rounds : ℕ) (s : Settings key rounds) (roll : Roll)
       ∙ agree (grantsIn (length grants)) _ _ (λ i h. alone (grantAt grants i) (grant-length grants i h))
 
 -- what was tried, with the test of the lengths as it is defined
-pub tried-with : (n rounds : ℕ) (b lengths : Bool) (grants room right r : ℕ) → r ≡ first (queueInputTries n rounds b grants room right)
-    → b ≡ lengths → r ≡ first (queueInputTries n rounds lengths grants room right)
-tried-with n rounds b lengths grants room right r e l = e ∙ ap (λ (b : Bool). first (queueInputTries n rounds b grants room right)) l
+pub tried-with : (n rounds : ℕ) (b lengths : Bool) (grants room block right r : ℕ) → r ≡ first (queueInputTries n rounds b grants room block right)
+    → b ≡ lengths → r ≡ first (queueInputTries n rounds lengths grants room block right)
+tried-with n rounds b lengths grants room block right r e l = e ∙ ap (λ (b : Bool). first (queueInputTries n rounds b grants room block right)) l
 
 -- a queue that was not refused
-pub record Passed (key : List ℕ) (rounds : ℕ) (grants out : List ℕ) (right : ℕ) : Type 0 where
-  pub key-length : keyLength (length key) ≡ true
-  pub round-count : roundsAllowed (length key) rounds ≡ true
-  pub room : leb (grantsIn (length grants)) (length out) ≡ true
-  pub asked : isRight right ≡ true
+pub record Passed (key : List ℕ) (rounds : ℕ) (lengths : Bool) (grants out : List ℕ) (block right : ℕ) : Type 0 where
+  pub tried : QueuePassed (length key) rounds lengths (length grants) (length out) block right
 
 -- the list of its key has its place
-pub fills : {key : List ℕ} {rounds : ℕ} {grants out : List ℕ} {right : ℕ} → Passed key rounds grants out right → Fits (length key) rounds 288
+pub fills : {key : List ℕ} {rounds : ℕ} {lengths : Bool} {grants out : List ℕ} {block right : ℕ} → Passed key rounds lengths grants out block right
+    → Fits (length key) rounds 288
 fills {key} {rounds} p =
-    let l = allowed (length key) rounds (p .key-length) (p .round-count) in
-    fitting (length key) rounds 288 (p .key-length) (p .round-count) (omega (arith, l .most, l .key))
+    let t = p .tried in
+    let l = allowed (length key) rounds (t .key-length) (t .round-count) in
+    fitting (length key) rounds 288 (t .key-length) (t .round-count) (omega (arith, l .most, l .key))
 
 -- and the list that its grants are opened over, at the front of some bytes
-module _ {key : List ℕ} {rounds : ℕ} {grants out : List ℕ} {right : ℕ} (p : Passed key rounds grants out right)
-    (list rest : List ℕ) (e : list ≡ listBytes (listFor Deciphering key rounds) ++ rest) where
+module _ {key : List ℕ} {rounds : ℕ} {lengths : Bool} {grants out : List ℕ} {block right : ℕ}
+    (p : Passed key rounds lengths grants out block right) (list rest : List ℕ) (e : list ≡ listBytes (listFor Deciphering key rounds) ++ rest) where
   front : take (12 * (rounds + 1)) list ≡ prepared Deciphering key rounds
   unfolding prepared
   front =
@@ -109,19 +114,21 @@ module _ {key : List ℕ} {rounds : ℕ} {grants out : List ℕ} {right : ℕ} (
 
   pub answerable : Answerable (length (take (12 * (rounds + 1)) list)) (length grants) (length out)
   answerable =
-      let l = allowed (length key) rounds (p .key-length) (p .round-count) in
+      let t = p .tried in
+      let l = allowed (length key) rounds (t .key-length) (t .round-count) in
       record {
         listed = ap listLength list-length ∙ accepted rounds (l .least) (omega (arith, l .most, l .key));
-        room = leb-true (grantsIn (length grants)) (length out) (p .room);
+        room = leb-true (grantsIn (length grants)) (length out) (t .fits);
       }
 
   -- what was written
-  pub all-answered : AreBytes key → (roll : Roll) (block : ℕ) (after : List ℕ)
+  pub all-answered : AreBytes key → (roll : Roll) (after : List ℕ)
       → after ≡ listedFrom 0 (grantsIn (length grants)) (λ i. numberOver (take (12 * (rounds + 1)) list) roll block right (grantAt grants i))
       ++ drop (grantsIn (length grants)) out
       → after ≡ queueAnswers key rounds roll grants block right ++ drop (length (queueAnswers key rounds roll grants block right)) out
-  all-answered bytes roll block after ea =
-      let s : Settings key rounds = record { bytes = bytes; length-allowed = p .key-length; rounds-allowed = p .round-count } in
+  all-answered bytes roll after ea =
+      let t = p .tried in
+      let s : Settings key rounds = record { bytes = bytes; length-allowed = t .key-length; rounds-allowed = t .round-count } in
       let n = grantsIn (length grants) in
-      ea ∙ ap (λ (l : List ℕ). l ++ drop n out) (answered-alone key rounds s roll block right (p .asked) grants _ front)
+      ea ∙ ap (λ (l : List ℕ). l ++ drop n out) (answered-alone key rounds s roll block right (t .asked) (t .some-block) grants _ front)
       ∙ ap (λ (m : ℕ). queueAnswers key rounds roll grants block right ++ drop m out) (sym (length-answers key rounds roll grants block right))

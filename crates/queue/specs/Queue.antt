@@ -14,13 +14,14 @@ queueAnswers key rounds roll grants size-block right =
     listedFrom 0 (grantsIn (length grants)) (λ i. checkNumber key rounds roll (grantAt grants i) size-block right)
 
 -- what is tried of the whole call
-abbrev pub queueTries : List ℕ → ℕ → List ℕ → ℕ → List ℕ → List Try
-queueTries key rounds grants right out = queueInputTries (length key) rounds (queueLength (length grants)) (length grants) (length out) right
+abbrev pub queueTries : List ℕ → ℕ → List ℕ → ℕ → ℕ → List ℕ → List Try
+queueTries key rounds grants size-block right out =
+    queueInputTries (length key) rounds (queueLength (length grants)) (length grants) (length out) size-block right
 
 -- its number, and what the lent answers hold after it
-abbrev pub queueNumber : List ℕ → ℕ → List ℕ → ℕ → List ℕ → ℕ
-queueNumber key rounds grants right out = first (queueTries key rounds grants right out)
+abbrev pub queueNumber : List ℕ → ℕ → List ℕ → ℕ → ℕ → List ℕ → ℕ
+queueNumber key rounds grants size-block right out = first (queueTries key rounds grants size-block right out)
 
 unfoldable pub queueOutput : List ℕ → ℕ → Roll → List ℕ → ℕ → ℕ → List ℕ → List ℕ
 queueOutput key rounds roll grants size-block right out =
-    written (queueNumber key rounds grants right out) (queueAnswers key rounds roll grants size-block right) out
+    written (queueNumber key rounds grants size-block right out) (queueAnswers key rounds roll grants size-block right) out

@@ -57,7 +57,7 @@ pub fn check(
     right: u32,
     answers: &mut [u8],
 ) -> Outcome
-    ensures { λ r. ⌜ outcomeNumber r ≡ queueNumber (now (key .entry)) rounds (now (grants .entry)) right (now (answers .entry)) ⌝ }
+    ensures { λ r. ⌜ outcomeNumber r ≡ queueNumber (now (key .entry)) rounds (now (grants .entry)) «size_block» right (now (answers .entry)) ⌝ }
     ensures { λ _. ⌜ now (answers .exit)
         ≡ queueOutput (now (key .entry)) rounds roll (now (grants .entry)) «size_block» right (now (answers .entry)) ⌝ }
 {
@@ -68,6 +68,7 @@ pub fn check(
         lengths,
         grants.len(),
         answers.len(),
+        size_block,
         right,
     );
     if refusal::is_refused(tried) {

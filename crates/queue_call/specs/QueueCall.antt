@@ -10,14 +10,14 @@ use Rattle.queue_parts.specs.QueueParts.{queueLength, queueInputTries}
 use Rattle.queue.specs.Queue.{queueAnswers}
 
 -- the order line of the queue, with 3 for the roll or the grants
-abbrev pub callQueueTries : List ℕ → ℕ → List ℕ → List ℕ → ℕ → List ℕ → List Try
-callQueueTries key rounds roll grants right out =
-    queueInputTries (length key) rounds (eqb (length roll) rollLength && queueLength (length grants)) (length grants) (length out) right
+abbrev pub callQueueTries : List ℕ → ℕ → List ℕ → List ℕ → ℕ → ℕ → List ℕ → List Try
+callQueueTries key rounds roll grants size-block right out =
+    queueInputTries (length key) rounds (eqb (length roll) rollLength && queueLength (length grants)) (length grants) (length out) size-block right
 
-abbrev pub callQueueNumber : List ℕ → ℕ → List ℕ → List ℕ → ℕ → List ℕ → ℕ
-callQueueNumber key rounds roll grants right out = first (callQueueTries key rounds roll grants right out)
+abbrev pub callQueueNumber : List ℕ → ℕ → List ℕ → List ℕ → ℕ → ℕ → List ℕ → ℕ
+callQueueNumber key rounds roll grants size-block right out = first (callQueueTries key rounds roll grants size-block right out)
 
 -- what the lent answers hold after it: the checks are on the roll that the bytes hold
 unfoldable pub callQueueOutput : List ℕ → ℕ → List ℕ → List ℕ → ℕ → ℕ → List ℕ → List ℕ
 callQueueOutput key rounds roll grants size-block right out =
-    written (callQueueNumber key rounds roll grants right out) (queueAnswers key rounds (rollOf roll) grants size-block right) out
+    written (callQueueNumber key rounds roll grants size-block right out) (queueAnswers key rounds (rollOf roll) grants size-block right) out

@@ -55,7 +55,8 @@ pub fn check(
     right: u32,
     answers: &mut [u8],
 ) -> u32
-    ensures { λ r. ⌜ r ≡ callQueueNumber (now (key .entry)) rounds (now (roll .entry)) (now (grants .entry)) right (now (answers .entry)) ⌝ }
+    ensures { λ r. ⌜ r ≡ callQueueNumber (now (key .entry)) rounds (now (roll .entry)) (now (grants .entry)) «size_block» right
+        (now (answers .entry)) ⌝ }
     ensures { λ _. ⌜ now (answers .exit) ≡ callQueueOutput (now (key .entry)) rounds (now (roll .entry)) (now (grants .entry)) «size_block» right
         (now (answers .entry)) ⌝ }
 {
@@ -69,6 +70,7 @@ pub fn check(
         lengths,
         grants.len(),
         answers.len(),
+        size_block,
         right,
     );
     if refusal::is_refused(tried) {

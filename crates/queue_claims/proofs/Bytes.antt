@@ -9,7 +9,7 @@ use lib.Dec.{ltb}
 use lib.ListN.{length, getD}
 use borrow.Author.Tests.{ltb-true, leb-true}
 use Rattle.basics.proofs.Tests.{and-first, and-second}
-use Rattle.refusal.specs.Tries.{Try, first, NoneHolds}
+use Rattle.refusal.specs.Tries.{Try, first}
 use Rattle.refusal.proofs.Given.{others, not-given}
 use Rattle.refusal.proofs.Ladder.{all-pass}
 use Rattle.refusal.proofs.Answers.{put-each, put-same, put-rest}
@@ -17,8 +17,9 @@ use Rattle.rounds.proofs.Turned.{getD-listed}
 use Rattle.roll.specs.declared.Roll.{Roll}
 use Rattle.judging.specs.Judging.{plainTries}
 use Rattle.checking.specs.Checking.{openedGrant, entryNow}
-use Rattle.queue_parts.specs.QueueParts.{grantsIn, grantAt}
+use Rattle.queue_parts.specs.QueueParts.{queueLength, grantsIn, grantAt}
 use Rattle.queue_parts.proofs.Answers.{grant-length}
+use Rattle.queue_parts.proofs.Passed.{QueuePassed, queue-passed}
 use Rattle.queue.specs.Queue.{queueTries, queueNumber, queueAnswers, queueOutput}
 use Rattle.queue.proofs.Answered.{length-answers, tried-once}
 use Rattle.queue_claims.specs.Claims.{Answers, Among, VerdictByte}
@@ -54,9 +55,10 @@ not-among (m ∷ ms) ts a (inr g) =
 
 -- ---- what a queue leaves
 module _ (key : List ℕ) (rounds : ℕ) (roll : Roll) (grants : List ℕ) (block right : ℕ) (out : List ℕ)
-    (e : queueNumber key rounds grants right out ≡ 0) where
-  passed : NoneHolds (queueTries key rounds grants right out)
-  passed = all-pass (queueTries key rounds grants right out) refl e
+    (e : queueNumber key rounds grants block right out ≡ 0) where
+  pub passed : QueuePassed (length key) rounds (queueLength (length grants)) (length grants) (length out) block right
+  passed = queue-passed (length key) rounds (queueLength (length grants)) (length grants) (length out) block right
+      (all-pass (queueTries key rounds grants block right out) refl e)
 
   -- each byte
   pub answers : Answers key rounds roll grants block right out (queueOutput key rounds roll grants block right out)
@@ -67,7 +69,7 @@ module _ (key : List ℕ) (rounds : ℕ) (roll : Roll) (grants : List ℕ) (bloc
       let n = grantsIn (length grants) in
       record {
         each = λ i h. put-each _ bytes out e i (subst⁻¹ (λ (m : ℕ). i < m) l h) ∙ getD-listed 0 n _ i h;
-        same = put-same _ bytes out e (omega (arith, l, leb-true n (length out) (passed .1 .1 .1 .0)));
+        same = put-same _ bytes out e (omega (arith, l, leb-true n (length out) (passed .fits)));
         rest = put-rest _ bytes out e n l;
       }
 
@@ -80,11 +82,12 @@ module _ (key : List ℕ) (rounds : ℕ) (roll : Roll) (grants : List ℕ) (bloc
     unfolding passed tries
     judged =
         answers .each i h
-        ∙ tried-once key rounds roll (grantAt grants i) block right (passed .0) (passed .1 .0) (passed .1 .1 .1 .1 .0) (grant-length grants i h)
+        ∙ tried-once key rounds roll (grantAt grants i) block right (passed .key-length) (passed .round-count) (passed .asked) (passed .some-block)
+        (grant-length grants i h)
 
     pub verdict : VerdictByte (getD (queueOutput key rounds roll grants block right out) i 0)
     unfolding tries
     verdict = record {
       one-of = subst⁻¹ (λ (n : ℕ). Among n (0 ∷ numbers tries)) judged (first-among tries);
-      none-of = λ m. not-among (1 ∷ 2 ∷ 3 ∷ 4 ∷ 7 ∷ []) tries refl (subst (λ (n : ℕ). Among n (1 ∷ 2 ∷ 3 ∷ 4 ∷ 7 ∷ [])) judged m);
+      none-of = λ m. not-among (1 ∷ 2 ∷ 3 ∷ 4 ∷ 7 ∷ 14 ∷ []) tries refl (subst (λ (n : ℕ). Among n (1 ∷ 2 ∷ 3 ∷ 4 ∷ 7 ∷ 14 ∷ [])) judged m);
     }

@@ -18,6 +18,7 @@ use Rattle.judging.specs.Judging.{inputTries, plainTries}
 use Rattle.checking.specs.Checking.{openedGrant, entryNow, checkNumber}
 use Rattle.check_call.specs.CheckCall.{callTries, callCode}
 use Rattle.queue_parts.specs.QueueParts.{queueLength, grantsIn, grantAt, queueInputTries}
+use Rattle.queue_parts.proofs.Passed.{QueuePassed, queue-passed}
 use Rattle.queue.specs.Queue.{queueNumber, queueAnswers, queueOutput}
 use Rattle.queue_call.specs.QueueCall.{callQueueTries, callQueueNumber, callQueueOutput}
 use Rattle.queue_claims.specs.Claims.{VerdictByte, asByte, CallAnswers, SameQueue}
@@ -36,19 +37,21 @@ module _ (key : List ℕ) (rounds : ℕ) (roll grants : List ℕ) (block right :
   pub same-queue : length roll ≡ rollLength → SameQueue key rounds roll grants block right out
   unfolding callQueueOutput queueOutput
   same-queue l =
-      let n : Bool → ℕ = λ b. first (queueInputTries (length key) rounds (b && queueLength (length grants)) (length grants) (length out) right) in
-      let e : callQueueNumber key rounds roll grants right out ≡ queueNumber key rounds grants right out = ap n (eq-eqb (length roll) rollLength l) in
+      let n : Bool → ℕ = λ b. first (queueInputTries (length key) rounds (b && queueLength (length grants)) (length grants) (length out) block right) in
+      let e : callQueueNumber key rounds roll grants block right out ≡ queueNumber key rounds grants block right out =
+      ap n (eq-eqb (length roll) rollLength l) in
       record { number = e; output = ap (λ (n : ℕ). written n (queueAnswers key rounds (rollOf roll) grants block right) out) e }
 
-  module _ (e : callQueueNumber key rounds roll grants right out ≡ 0) where
-    -- the roll's length, and the right
+  module _ (e : callQueueNumber key rounds roll grants block right out ≡ 0) where
+    -- what passed: the roll's length, and the right
+    tried : QueuePassed (length key) rounds (eqb (length roll) rollLength && queueLength (length grants)) (length grants) (length out) block right
+    tried = queue-passed _ _ _ _ _ _ _ (all-pass (callQueueTries key rounds roll grants block right out) refl e)
+
     pub roll-long : length roll ≡ rollLength
-    roll-long =
-        let p = all-pass (callQueueTries key rounds roll grants right out) refl e in
-        eqb-true (length roll) rollLength (and-first (eqb (length roll) rollLength) (queueLength (length grants)) (p .1 .1 .0))
+    roll-long = eqb-true (length roll) rollLength (and-first (eqb (length roll) rollLength) (queueLength (length grants)) (tried .long))
 
     right-asked : isRight right ≡ true
-    right-asked = all-pass (callQueueTries key rounds roll grants right out) refl e .1 .1 .1 .1 .0
+    right-asked = tried .asked
 
     -- the number of the C call of the check is the check's
     code-byte : (grant : List ℕ) → asByte (callCode key rounds roll grant block right) ≡ checkNumber key rounds (rollOf roll) grant block right
@@ -57,7 +60,8 @@ module _ (key : List ℕ) (rounds : ℕ) (roll grants : List ℕ) (block right :
         let ts = callTries key rounds roll grant block right in
         let p = openedGrant key rounds grant in
         let n : Bool → ℕ = λ b.
-        first (inputTries (length key) rounds (b && eqb (length grant) 12) right ++ plainTries p (entryNow key rounds (rollOf roll) grant) block right) in
+        first (inputTries (length key) rounds (b && eqb (length grant) 12) block right
+        ++ plainTries p (entryNow key rounds (rollOf roll) grant) block right) in
         byte-of (first ts) (1000 * right + contractorIn p) (first-small 1000 ts refl) (omega (arith, right-least right right-asked))
         ∙ ap n (eq-eqb (length roll) rollLength roll-long)
 

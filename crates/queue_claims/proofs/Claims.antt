@@ -17,34 +17,35 @@ use Rattle.histories.specs.Histories.{withdraw, changed}
 use Rattle.histories.specs.Claims.{CallsCount}
 use Rattle.histories.proofs.Claims.{calls-count}
 use Rattle.checking.specs.Checking.{checkNumber}
-use Rattle.revocation.specs.Claims.{OpensNothing, RevokedNeverOpens, RevokedInTwoRooms}
-use Rattle.revocation.proofs.Claims.{revoked-never-opens, revoked-in-two-rooms}
+use Rattle.revocation.specs.Claims.{OpensNothing, EarlierNeverOpens, RevokedNeverOpens, RevokedInTwoRooms}
+use Rattle.revocation.proofs.Claims.{earlier-never-opens, revoked-never-opens, revoked-in-two-rooms}
 use Rattle.revocation.proofs.Checks.{stands}
 use Rattle.check_call.specs.CheckCall.{callCode}
-use Rattle.call_claims.specs.Claims.{Refuses, CallsRevoke, CallsRevokeInTwoRooms}
+use Rattle.call_claims.specs.Claims.{Refuses, CallsRevokeEarlier, CallsRevoke, CallsRevokeInTwoRooms}
 use Rattle.roll_calls.specs.RollCalls.{withdrawCallTries, withdrawCallRoll}
 use Rattle.call_claims.specs.CallHistories.{called}
 use Rattle.call_claims.proofs.Stored.{is-roll, call-holds}
-use Rattle.call_claims.proofs.Claims.{calls-revoke, calls-revoke-in-two-rooms}
+use Rattle.call_claims.proofs.Claims.{calls-revoke-earlier, calls-revoke, calls-revoke-in-two-rooms}
 use Rattle.queue.specs.Queue.{queueTries, queueNumber, queueAnswers, queueOutput}
 use Rattle.queue_call.specs.QueueCall.{callQueueTries, callQueueNumber, callQueueOutput}
 use Rattle.queue_claims.specs.Claims.{QueueInOrder, RefusedQueueKeeps, BytesAreChecks, BytesAreVerdicts, OpensNowhere, QueueAfterWithdrawal}
 use Rattle.queue_claims.specs.Claims.{QueueRevoked, QueueRevokedInTwoRooms, asByte, CallBytesAreChecks, CallIsQueue, CallBytesAreVerdicts}
 use Rattle.queue_claims.specs.Claims.{CallOpensNowhere, CallQueueAfterWithdrawal, CallQueueRevoked, CallQueueRevokedInTwoRooms}
+use Rattle.queue_claims.specs.Claims.{QueueRevokedEarlier, CallQueueRevokedEarlier}
 use Rattle.queue_claims.proofs.Bytes.{answers, verdict}
 use Rattle.queue_claims.proofs.Calls.{same-queue, roll-long, call-answers, call-verdict}
 
 -- ---- the whole call
 pub queue-in-order : QueueInOrder
 unfolding QueueInOrder
-queue-in-order key rounds roll grants right out =
-    (ordered (queueTries key rounds grants right out) refl, ordered (callQueueTries key rounds roll grants right out) refl)
+queue-in-order key rounds roll grants block right out =
+    (ordered (queueTries key rounds grants block right out) refl, ordered (callQueueTries key rounds roll grants block right out) refl)
 
 pub refused-queue-keeps : RefusedQueueKeeps
 unfolding RefusedQueueKeeps queueOutput callQueueOutput
 refused-queue-keeps key rounds roll bytes grants block right out = (
-  λ h. sym (kept (queueNumber key rounds grants right out) (queueAnswers key rounds roll grants block right) out h),
-  λ h. sym (kept (callQueueNumber key rounds bytes grants right out) (queueAnswers key rounds (rollOf bytes) grants block right) out h),
+  λ h. sym (kept (queueNumber key rounds grants block right out) (queueAnswers key rounds roll grants block right) out h),
+  λ h. sym (kept (callQueueNumber key rounds bytes grants block right out) (queueAnswers key rounds (rollOf bytes) grants block right) out h),
 )
 
 -- ---- each byte
@@ -58,7 +59,7 @@ bytes-are-verdicts = verdict
 
 -- ---- revocation in a queue
 -- what opens nothing when it is checked alone opens nowhere in a queue
-nowhere : (key : List ℕ) (rounds : ℕ) (roll : Roll) (grant : List ℕ) → OpensNothing key rounds roll grant → OpensNowhere key rounds roll grant
+pub nowhere : (key : List ℕ) (rounds : ℕ) (roll : Roll) (grant : List ℕ) → OpensNothing key rounds roll grant → OpensNowhere key rounds roll grant
 nowhere key rounds roll grant n grants block right out e i h g z =
     let a = answers key rounds roll grants block right out e in
     n block right (ap (λ (x : List ℕ). checkNumber key rounds roll x block right) (sym g) ∙ sym (a .each i h) ∙ z)
@@ -69,6 +70,11 @@ queue-after-withdrawal roll is contractor w key rounds grant named =
     nowhere key rounds (withdrawnRoll roll contractor) grant (λ block right e.
     true≢false (sym (stands key rounds (withdrawnRoll roll contractor) grant block right e)
     ∙ ap (λ (c : ℕ). inStanding (countOf (withdrawnRoll roll contractor) c)) named ∙ calls-count roll is contractor .withdrawn w .1))
+
+pub queue-revoked-earlier : QueueRevokedEarlier
+unfolding QueueRevokedEarlier EarlierNeverOpens
+queue-revoked-earlier key rounds roll contractor grant g is hs w =
+    nowhere key rounds _ _ (earlier-never-opens key rounds roll contractor grant g is hs w)
 
 pub queue-revoked : QueueRevoked
 unfolding QueueRevoked RevokedNeverOpens
@@ -115,12 +121,17 @@ refused-byte : (code : ℕ) → 1 ≤ code → code ≤ 999 → asByte code ≡ 
 refused-byte code least most z =
     let e = sym (ap (λ (b : Bool). cond b 0 code) (lt-leb 1000 code (omega arith))) ∙ z in omega (arith, e, least)
 
-call-nowhere : (key : List ℕ) (rounds : ℕ) (roll grant : List ℕ) → Refuses key rounds roll grant → CallOpensNowhere key rounds roll grant
+pub call-nowhere : (key : List ℕ) (rounds : ℕ) (roll grant : List ℕ) → Refuses key rounds roll grant → CallOpensNowhere key rounds roll grant
 call-nowhere key rounds roll grant r grants block right out e i h g z =
     let n = r block right in
     refused-byte (callCode key rounds roll grant block right) (n .0) (n .1)
     (ap (λ (x : List ℕ). asByte (callCode key rounds roll x block right)) (sym g)
     ∙ sym (call-answers key rounds roll grants block right out e .each i h) ∙ z)
+
+pub call-queue-revoked-earlier : CallQueueRevokedEarlier
+unfolding CallQueueRevokedEarlier CallsRevokeEarlier
+call-queue-revoked-earlier key rounds roll small long contractor grant g hs w =
+    call-nowhere key rounds _ _ (calls-revoke-earlier key rounds roll small long contractor grant g hs w)
 
 pub call-queue-revoked : CallQueueRevoked
 unfolding CallQueueRevoked CallsRevoke

@@ -12,15 +12,15 @@ fn byte(n: usize) -> u8 {
     (n % 256) as u8
 }
 
-// Plain bytes for size block 300 or 301: contractor, count, block and right, and the mark of a grant.
+// Plain bytes: contractor, count, size block and right, and the mark of a grant.
 fn plain(contractor: u8, count: u8, block: usize, right: u8) -> [u8; 12] {
     [
         0,
         contractor,
         0,
         count,
-        0,
-        0,
+        byte(block / 16777216),
+        byte(block / 65536),
         byte(block / 256),
         byte(block),
         right,
@@ -30,7 +30,7 @@ fn plain(contractor: u8, count: u8, block: usize, right: u8) -> [u8; 12] {
     ]
 }
 
-// Fifteen kinds of grants, of which two open for overwriting and eight for reading.
+// Seventeen kinds of grants. Asked for size block 300, two open for overwriting and eight for reading.
 fn kind(n: usize) -> [u8; 12] {
     if n == 0 {
         plain(1, 1, 300, 2)
@@ -67,8 +67,19 @@ fn kind_of_reader(n: usize) -> [u8; 12] {
         plain(7, 7, 300, 3)
     } else if n == 13 {
         plain(11, 11, 300, 2)
-    } else {
+    } else if n == 14 {
         plain(5, 3, 300, 2)
+    } else {
+        kind_of_block(n)
+    }
+}
+
+// Those for other size blocks: for 0, as one that was issued before that was refused, and for one of which the lower three bytes are 0.
+fn kind_of_block(n: usize) -> [u8; 12] {
+    if n == 15 {
+        plain(1, 1, 0, 2)
+    } else {
+        plain(1, 1, 16777216, 2)
     }
 }
 
@@ -79,7 +90,7 @@ fn grants() -> [u8; 780] {
     let mut i: usize = 0;
     while i < GRANTS {
         let at = 12 * i;
-        cipher::encipher(&key, 10, &kind(i % 15), &mut out[at..at + 12]);
+        cipher::encipher(&key, 10, &kind(i % 17), &mut out[at..at + 12]);
         i += 1;
     }
     out
@@ -117,6 +128,7 @@ fn line(grants: &[u8; 780]) {
     let r = printing::echo_u32();
     let l = printing::echo();
     let o = printing::echo();
+    let asked = printing::echo_u32();
     let right = printing::echo_u32();
     let lent = printing::first(grants, l);
     let answer = queue::check(
@@ -127,7 +139,7 @@ fn line(grants: &[u8; 780]) {
             rights: rights(),
         },
         lent,
-        300,
+        asked,
         right,
         printing::first_mut(&mut out, o),
     );

@@ -17,21 +17,27 @@ pub fn is_queue_length(n: usize) -> bool
     basics::both(n % 12 == 0, n <= 768)
 }
 
-// Settings, lengths, room for the answers, and the right that is asked for.
+// Settings, lengths, room for the answers, and the right and the size block that are asked for.
 pub fn try_queue(
     n: usize,
     rounds: u32,
     lengths: bool,
     grants: usize,
     room: usize,
+    size_block: u32,
     right: u32,
 ) -> Outcome
-    ensures { λ r. ⌜ outcomeNumber r ≡ first (queueInputTries n rounds lengths grants room right) ⌝ }
+    ensures { λ r. ⌜ outcomeNumber r ≡ first (queueInputTries n rounds lengths grants room «size_block» right) ⌝ }
 {
     let settings = settings::try_settings(n, rounds);
     let whole = unless(settings, Reason::InputLength, lengths);
     let fits = unless(whole, Reason::OutputTooShort, grants / 12 <= room);
-    unless(fits, Reason::UnknownRight, rights::is_right(right))
+    let asked = unless(fits, Reason::UnknownRight, rights::is_right(right));
+    unless(
+        asked,
+        Reason::BlockZero,
+        size_blocks::is_size_block(size_block),
+    )
 }
 
 // What answers for a grant: 0 if it opens, else its refusal's number.

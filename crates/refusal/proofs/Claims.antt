@@ -7,7 +7,7 @@ use lib.Dec.{eqb}
 use borrow.Author.Tests.{ne-eqb}
 use Rattle.refusal.specs.declared.Reason.{Reason}
 use Rattle.refusal.specs.declared.Reason.the-variants.{KeyLength, RoundCount, InputLength, OutputTooShort, StageOrList, Contractor, UnknownRight}
-use Rattle.refusal.specs.declared.Reason.the-variants.{NotAGrant, OtherBlock, OtherRight, NotAPage, PayloadTooLong, CheckDiffers}
+use Rattle.refusal.specs.declared.Reason.the-variants.{NotAGrant, OtherBlock, OtherRight, NotAPage, PayloadTooLong, CheckDiffers, BlockZero}
 use Rattle.refusal.specs.declared.Reason.the-variants.{NotInStanding, InStanding, CountSpent, OtherCount, BrokenHolder, AboveHighest}
 use Rattle.refusal.specs.declared.Outcome.{Outcome}
 use Rattle.refusal.specs.declared.Outcome.the-variants.{Done, Refused}
@@ -22,8 +22,8 @@ reason n =
     cond (eqb n 1) KeyLength (cond (eqb n 2) RoundCount (cond (eqb n 3) InputLength (cond (eqb n 4) OutputTooShort
     (cond (eqb n 5) StageOrList (cond (eqb n 6) Contractor (cond (eqb n 7) UnknownRight (cond (eqb n 8) NotAGrant
     (cond (eqb n 9) OtherBlock (cond (eqb n 10) OtherRight (cond (eqb n 11) NotAPage (cond (eqb n 12) PayloadTooLong
-    (cond (eqb n 13) CheckDiffers (cond (eqb n 20) NotInStanding (cond (eqb n 21) InStanding (cond (eqb n 22) CountSpent
-    (cond (eqb n 23) OtherCount (cond (eqb n 24) BrokenHolder AboveHighest)))))))))))))))))
+    (cond (eqb n 13) CheckDiffers (cond (eqb n 14) BlockZero (cond (eqb n 20) NotInStanding (cond (eqb n 21) InStanding
+    (cond (eqb n 22) CountSpent (cond (eqb n 23) OtherCount (cond (eqb n 24) BrokenHolder AboveHighest))))))))))))))))))
 
 reason-number : (r : Reason) → reason (reasonNumber r) ≡ r
 unfolding reason
@@ -40,6 +40,7 @@ reason-number OtherRight = refl
 reason-number NotAPage = refl
 reason-number PayloadTooLong = refl
 reason-number CheckDiffers = refl
+reason-number BlockZero = refl
 reason-number NotInStanding = refl
 reason-number InStanding = refl
 reason-number CountSpent = refl

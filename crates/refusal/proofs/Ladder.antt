@@ -28,6 +28,14 @@ a-numbered (t ∷ ts) e =
 pub all-pass : (ts : List Try) → numbered ts ≡ true → first ts ≡ 0 → NoneHolds ts
 all-pass ts n e = none-holds ts (a-numbered ts n) e
 
+-- and where one cannot pass, some number is given
+pub some-given : (ts : List Try) → numbered ts ≡ true → (NoneHolds ts → ⊥) → 0 < first ts
+some-given ts n h = by (first ts) refl
+  where
+    by : (m : ℕ) → first ts ≡ m → 0 < first ts
+    by zero e = absurd (h (all-pass ts n e))
+    by (suc m) e = omega (arith, e)
+
 pub ordered : (ts : List Try) → numbered ts ≡ true → Ordered ts
 ordered ts n = record { none-given = none-given ts; none-holds = all-pass ts n; given-first = first-of ts }
 

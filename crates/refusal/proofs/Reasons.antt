@@ -7,7 +7,7 @@ use borrow.Author.Tests.{ltb-true, leb-true}
 use Rattle.basics.proofs.Tests.{and-first, and-second}
 use Rattle.refusal.specs.declared.Reason.{Reason}
 use Rattle.refusal.specs.declared.Reason.the-variants.{KeyLength, RoundCount, InputLength, OutputTooShort, StageOrList, Contractor, UnknownRight}
-use Rattle.refusal.specs.declared.Reason.the-variants.{NotAGrant, OtherBlock, OtherRight, NotAPage, PayloadTooLong, CheckDiffers}
+use Rattle.refusal.specs.declared.Reason.the-variants.{NotAGrant, OtherBlock, OtherRight, NotAPage, PayloadTooLong, CheckDiffers, BlockZero}
 use Rattle.refusal.specs.declared.Reason.the-variants.{NotInStanding, InStanding, CountSpent, OtherCount, BrokenHolder, AboveHighest}
 use Rattle.refusal.specs.Reasons.{reasonNumber}
 
@@ -26,6 +26,7 @@ bounded OtherRight = refl
 bounded NotAPage = refl
 bounded PayloadTooLong = refl
 bounded CheckDiffers = refl
+bounded BlockZero = refl
 bounded NotInStanding = refl
 bounded InStanding = refl
 bounded CountSpent = refl

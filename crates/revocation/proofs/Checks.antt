@@ -4,9 +4,10 @@ use mathlib.Core.Bool.{true}
 use mathlib.Core.List.{List}
 use Prim.Native.Nat.{ℕ, _≤_, _<_}
 use native.Mathlib.Omega.{arith}
+use lib.Dec.{eqb}
 use lib.ListN.{length}
 use borrow.Author.Tests.{eqb-true, eq-eqb, leb-true, le-leb}
-use Rattle.refusal.specs.Tries.{NoneHolds}
+use Rattle.refusal.specs.Tries.{Try}
 use Rattle.refusal.proofs.Tries.{none-given}
 use Rattle.refusal.proofs.Ladder.{all-pass}
 use Rattle.refusal.proofs.Answers.{answer-done}
@@ -15,6 +16,7 @@ use Rattle.block_bytes.specs.Blocks.{stateOf}
 use Rattle.basics.specs.Bytes.{AreBytes}
 use Rattle.block_bytes.proofs.RoundTrip.{block-state}
 use Rattle.sizes.specs.Sizes.{keyLength}
+use Rattle.size_blocks.proofs.SizeBlocks.{is-size-block, other-than-zero}
 use Rattle.key_lists.specs.declared.Direction.the-variants.{Deciphering}
 use Rattle.key_lists.specs.KeyLists.{listFor}
 use Rattle.key_lists.proofs.Lists.{states-for}
@@ -24,8 +26,10 @@ use Rattle.roll.specs.Roll.{isContractor, countOf, figureOf, inStanding}
 use Rattle.roll.proofs.Contractors.{a-contractor, is-contractor, a-standing, is-standing}
 use Rattle.rights.specs.Rights.{isRight, covers, highest, withinHighest}
 use Rattle.grant.specs.Grants.{plainGrant, contractorIn, countIn, sizeBlockIn, rightIn, isMarked, isGrant}
-use Rattle.checking.specs.Checking.{openedGrant, checkTries, checkNumber, checkContractor, checkRight}
-use Rattle.rights.proofs.Rights.{one-or-two, is-right, covering-right}
+use Rattle.judging.specs.Judging.{plainTries}
+use Rattle.judging.proofs.Passed.{InputPassed, PlainPassed, input-passed, input-passes, plain-passed, plain-passes}
+use Rattle.checking.specs.Checking.{openedGrant, entryNow, checkTries, checkNumber, checkContractor, checkRight}
+use Rattle.rights.proofs.Rights.{one-or-two, is-right, covers-reading, covering-right, within-reading}
 use Rattle.grant.proofs.Tests.{a-grant, is-grant}
 use Rattle.revocation.specs.Claims.{Opening, Accepted}
 use Rattle.revocation.proofs.Bytes.{reads-contractor, reads-count, reads-block, reads-right, reads-mark, written-again, state-bytes-small}
@@ -55,8 +59,27 @@ module _ (key : List ℕ) (rounds : ℕ) (roll : Roll) (grant : List ℕ) (block
   p : List ℕ
   p = openedGrant key rounds grant
 
-  pub passed : checkNumber key rounds roll grant block right ≡ 0 → NoneHolds (checkTries key rounds roll grant block right)
-  passed e = all-pass (checkTries key rounds roll grant block right) refl e
+  abbrev plain-tries : List Try
+  plain-tries = plainTries (openedGrant key rounds grant) (entryNow key rounds roll grant) block right
+
+  abbrev pub Input : Type 0
+  Input = InputPassed (length key) rounds (eqb (length grant) 12) block right
+
+  abbrev pub Plain : Type 0
+  Plain = PlainPassed (openedGrant key rounds grant) (entryNow key rounds roll grant) block right
+
+  pub passed : checkNumber key rounds roll grant block right ≡ 0 → Input × Plain
+  passed e =
+      let h = input-passed (length key) rounds (eqb (length grant) 12) block right plain-tries
+      (all-pass (checkTries key rounds roll grant block right) refl e) in
+      (h .0, plain-passed (openedGrant key rounds grant) (entryNow key rounds roll grant) block right (h .1))
+
+  -- and back
+  pub passes : Input → Plain → checkNumber key rounds roll grant block right ≡ 0
+  passes i t =
+      none-given (checkTries key rounds roll grant block right)
+      (input-passes (length key) rounds (eqb (length grant) 12) block right plain-tries i
+      (plain-passes (openedGrant key rounds grant) (entryNow key rounds roll grant) block right t))
 
   -- a check that is not refused is accepted, with what it answers
   pub not-refused : checkNumber key rounds roll grant block right ≡ 0
@@ -70,40 +93,55 @@ module _ (key : List ℕ) (rounds : ℕ) (roll : Roll) (grant : List ℕ) (block
 
   -- the grant's contractor is in standing
   pub stands : checkNumber key rounds roll grant block right ≡ 0 → inStanding (countOf roll (contractorIn (openedGrant key rounds grant))) ≡ true
-  stands e = passed e .1 .1 .1 .1 .1 .1 .1 .0
+  stands e = passed e .1 .stands
 
   pub opening : AreBytes key → AreBytes grant → checkNumber key rounds roll grant block right ≡ 0 → Opening key rounds roll grant block right
   unfolding p
   opening hk hg e =
-      let h = passed e in
-      let k = h .0 in
-      let r = h .1 .0 in
-      let l = h .1 .1 .0 in
-      let q = h .1 .1 .1 .0 in
-      let t = h .1 .1 .1 .1 in
-      let g = a-grant p (t .0) in
-      let eb = eqb-true (sizeBlockIn p) block (t .1 .0) in
-      let s = a-standing (countOf roll (contractorIn p)) (t .1 .1 .1 .0) in
-      let ec = eqb-true (countIn p) (countOf roll (contractorIn p)) (t .1 .1 .1 .1 .0) in
+      let i = passed e .0 in
+      let t = passed e .1 in
+      let g = a-grant p (t .whole) in
+      let eb = eqb-true (sizeBlockIn p) block (t .same-block) in
+      let s = a-standing (countOf roll (contractorIn p)) (t .stands) in
+      let ec = eqb-true (countIn p) (countOf roll (contractorIn p)) (t .same-count) in
       let c = a-contractor (contractorIn p) (g .contractor) in
-      let again = written-again p (opened-twelve key rounds grant) (opened-bytes key hk rounds grant hg k) (g .marked) in
+      let again = written-again p (opened-twelve key rounds grant) (opened-bytes key hk rounds grant hg (i .key-length)) (g .marked) in
       record {
-        key-length = k;
-        round-count = r;
-        twelve = eqb-true (length grant) 12 l;
-        asked = one-or-two right q;
+        key-length = i .key-length;
+        round-count = i .round-count;
+        twelve = eqb-true (length grant) 12 (i .long);
+        asked = one-or-two right (i .asked);
+        some-block = other-than-zero block (i .some-block);
         contractor = contractorIn p;
         count = countIn p;
         granted = rightIn p;
-        covered = t .1 .1 .0;
+        covered = t .covered;
         plain = sym again ∙ ap (λ (b : ℕ). plainGrant (contractorIn p) (countIn p) b (rightIn p)) eb;
         least = c .least;
         most = c .most;
         on-roll = sym ec;
         odd = omega (arith, s .odd, ec);
         below = omega (arith, s .below, ec);
-        within = within-is right _ (t .1 .1 .1 .1 .1 .0);
+        within = within-is right _ (t .within);
       }
+
+-- whatever was asked for, a whole grant for that size block, in its contractor's standing, opens for reading: it covers reading, and no figure is below
+pub reads-too : (key : List ℕ) (rounds : ℕ) (roll : Roll) (grant : List ℕ) (block right : ℕ) → let p = openedGrant key rounds grant in
+    Input key rounds roll grant block right → isGrant p ≡ true → eqb (sizeBlockIn p) block ≡ true
+    → inStanding (countOf roll (contractorIn p)) ≡ true → eqb (countIn p) (countOf roll (contractorIn p)) ≡ true
+    → checkNumber key rounds roll grant block 1 ≡ 0
+reads-too key rounds roll grant block right i whole same-block stands same-count =
+    let p = openedGrant key rounds grant in
+    passes key rounds roll grant block 1
+    record { key-length = i .key-length; round-count = i .round-count; long = i .long; asked = refl; some-block = i .some-block }
+    record {
+      whole = whole;
+      same-block = same-block;
+      covered = covers-reading (rightIn p) (a-grant p whole .right);
+      stands = stands;
+      same-count = same-count;
+      within = within-reading _;
+    }
 
 -- what plain bytes name
 pub record Named (p : List ℕ) (c n b r : ℕ) : Type 0 where
@@ -143,22 +181,22 @@ accepted key rounds roll grant block right few o =
     let s : countOf roll (contractorIn p) ≡ n = ap (countOf roll) (m .contractor) ∙ o .on-roll in
     let stands = is-standing n record { odd = o .odd; below = o .below } in
     let within = ap (λ (d : ℕ). withinHighest right (figureOf roll d)) (m .contractor) ∙ is-within right (figureOf roll c) (o .within) in
-    let e = none-given (checkTries key rounds roll grant block right) (
-      o .key-length,
-      (
-        o .round-count,
-        (
-          eq-eqb (length grant) 12 (o .twelve),
-          (
-            q,
-            (
-              m .grant,
-              (eq-eqb _ block (m .block), (covered, (ap inStanding s ∙ stands, (eq-eqb _ _ (m .count ∙ sym s), (within, tt))))),
-            ),
-          ),
-        ),
-      ),
-    ) in
+    let e = passes key rounds roll grant block right
+    record {
+      key-length = o .key-length;
+      round-count = o .round-count;
+      long = eq-eqb (length grant) 12 (o .twelve);
+      asked = q;
+      some-block = is-size-block block (o .some-block);
+    }
+    record {
+      whole = m .grant;
+      same-block = eq-eqb _ block (m .block);
+      covered = covered;
+      stands = ap inStanding s ∙ stands;
+      same-count = eq-eqb _ _ (m .count ∙ sym s);
+      within = within;
+    } in
     record {
       number = e;
       answers-contractor = sym (answer-done (checkTries key rounds roll grant block right) (contractorIn p) 0 e) ∙ m .contractor;

@@ -14,15 +14,16 @@ use mathlib.Core.Logic.{inl, inr}
 use lib.Dec.{eqb, lit<}
 use Rattle.refusal.proofs.Tries.{none-given}
 use Rattle.refusal.proofs.Ladder.{ordered}
+use Rattle.size_blocks.specs.SizeBlocks.{isSizeBlock}
 use Rattle.rights.specs.Rights.{isRight}
 use Rattle.rights.proofs.Rights.{within-two}
 use Rattle.issuing.specs.Issuing.{issueTries}
 use Rattle.checking.specs.Checking.{entryNow, checkTries}
 use Rattle.revocation.specs.Claims.{Issued, OpensExactlyWhen, EachRefusalFirst, IssuedOpens, OverwritingOpensReading, ReadingDoesNotOverwrite}
 use Rattle.revocation.specs.Claims.{OnlyOverwritingOverwrites, TenOnlyForOverwriting, RevokedNeverOpens, RevokedInTwoRooms, RevocationHappens}
-use Rattle.revocation.specs.Claims.{OthersUndisturbed, NumbersTellVerdicts, roll7, calls7}
+use Rattle.revocation.specs.Claims.{IssuedIsEarlier, EarlierNeverOpens, OthersUndisturbed, NumbersTellVerdicts, roll7, calls7}
 use Rattle.revocation.proofs.Checks.{opening, accepted}
-use Rattle.revocation.proofs.Issued.{checks, revoked, revoked-asked}
+use Rattle.revocation.proofs.Issued.{is-earlier, earlier-revoked, checks, revoked, revoked-asked}
 use Rattle.revocation.proofs.Looks.{looks, overwrites, ten}
 use Rattle.revocation.proofs.Others.{same-check, verdicts-told}
 
@@ -47,13 +48,13 @@ issued-opens = checks
 
 -- contractor 7, entered for overwriting on an empty roll, gets a grant with either right
 pub issued-7 : (right : ℕ) → isRight right ≡ true → Issued (replicate 12 0) 10 roll7 7 300 right (replicate 12 0)
-unfolding first answered emptyRoll countOf figureOf inStanding withEntry enteredRoll
+unfolding first answered isSizeBlock emptyRoll countOf figureOf inStanding withEntry enteredRoll
 issued-7 right q =
     let tries = issueTries (replicate 12 0) 10 roll7 7 300 right (replicate 12 0) in
     record {
       key-bytes = zeros-small (lit< tt) 12;
       block-small = lit< tt;
-      number = none-given tries (refl, (refl, (refl, (refl, (q, (refl, (within-two right q, tt)))))));
+      number = none-given tries (refl, (refl, (refl, (refl, (q, (refl, (refl, (within-two right q, tt))))))));
     }
 
 pub overwriting-opens-reading : OverwritingOpensReading
@@ -74,6 +75,14 @@ pub ten-only-for-overwriting : TenOnlyForOverwriting
 unfolding TenOnlyForOverwriting
 ten-only-for-overwriting key rounds roll grant block right e =
     ten key rounds (eqb (length grant) 12) grant (entryNow key rounds roll grant) block right e
+
+pub issued-is-earlier : IssuedIsEarlier
+unfolding IssuedIsEarlier
+issued-is-earlier = is-earlier
+
+pub earlier-never-opens : EarlierNeverOpens
+unfolding EarlierNeverOpens
+earlier-never-opens = earlier-revoked
 
 pub revoked-never-opens : RevokedNeverOpens
 unfolding RevokedNeverOpens

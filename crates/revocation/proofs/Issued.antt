@@ -1,7 +1,7 @@
 -- Issued grants: what they decipher to, that they open, and that none opens after its contractor's withdrawal.
 use mathlib.Core.Path.{_≡_, refl, sym, ap, _∙_}
 use mathlib.Core.Bool.{true, false}
-use mathlib.Core.List.{List, _++_}
+use mathlib.Core.List.{List, [], _++_}
 use Prim.Native.Nat.{ℕ, zero, suc, _<_}
 use native.Mathlib.Omega.{arith}
 use lib.Dec.{eqb, lit<}
@@ -11,21 +11,27 @@ use Rattle.refusal.specs.Tries.{first, NoneHolds}
 use Rattle.refusal.proofs.Tries.{first-passes, first-holds, first-then}
 use Rattle.refusal.proofs.Ladder.{all-pass}
 use Rattle.basics.specs.Bytes.{AreBytes}
+use Rattle.key_lists.specs.Claims.{Settings}
 use Rattle.cipher.specs.Cipher.{cipherBlock}
 use Rattle.cipher.specs.Claims.{DeciphersWhatWasEnciphered}
 use Rattle.cipher.proofs.Claims.{deciphers-what-was-enciphered}
 use Rattle.roll.specs.declared.Roll.{Roll}
-use Rattle.roll.specs.Roll.{countOf}
+use Rattle.roll.specs.Roll.{countOf, entryOf}
 use Rattle.roll.proofs.Contractors.{Contractor, a-contractor, a-standing}
 use Rattle.histories.specs.Histories.{Change, rollAfter, Withdrawn, Withdraws, IsRoll}
 use Rattle.histories.proofs.Counts.{counted-up, asked-counts}
 use Rattle.rights.specs.Rights.{isRight, covers}
 use Rattle.grant.specs.Grants.{plainGrant, contractorIn, countIn, sizeBlockIn}
+use Rattle.size_blocks.specs.SizeBlocks.{isSizeBlock}
+use Rattle.size_blocks.proofs.SizeBlocks.{is-size-block, zero-is-none, other-than-zero}
 use Rattle.issuing.specs.Issuing.{issueTries, issuedGrant}
+use Rattle.issuing.proofs.Passed.{WantedPassed, wanted-passed}
 use Rattle.judging.specs.Judging.{inputTries, askedTries, standingTries, plainTries}
+use Rattle.judging.proofs.Passed.{input-passes}
 use Rattle.checking.specs.Checking.{openedGrant, entryNow, checkNumber}
 use Rattle.rights.proofs.Rights.{one-or-two, right-small, covered-right, covers-itself, covered-within}
-use Rattle.revocation.specs.Claims.{Opening, Accepted, Issued, Checks, OpensNothing}
+use Rattle.revocation.specs.Claims.{Opening, Accepted, Issued, Checks, OpensNothing, Earlier}
+use Rattle.revocation.proofs.Bytes.{reads-contractor, reads-count}
 use Rattle.revocation.proofs.Checks.{within-is, passed, Named, named, accepted}
 
 -- ---- plain bytes are bytes
@@ -53,39 +59,68 @@ pub issued-twelve : (key : List ℕ) (rounds : ℕ) (roll : Roll) (c b r : ℕ) 
 unfolding issuedGrant cipherBlock
 issued-twelve key rounds roll c b r = refl
 
+-- deciphered, a grant as an issue makes it is its plain bytes
+pub deciphers : (key : List ℕ) (rounds : ℕ) → Settings key rounds → (roll : Roll) (c b r : ℕ) → r < 256
+    → openedGrant key rounds (issuedGrant key rounds roll c b r) ≡ plainGrant c (countOf roll c) b r
+unfolding openedGrant issuedGrant DeciphersWhatWasEnciphered
+deciphers key rounds s roll c b r h =
+    deciphers-what-was-enciphered key rounds (plainGrant c (countOf roll c) b r) s
+    record { bytes = plain-bytes c (countOf roll c) b r h; twelve = plain-twelve c (countOf roll c) b r }
+
+-- ---- grants from before now
+pub is-earlier : (key : List ℕ) (rounds : ℕ) → Settings key rounds → (roll : Roll) (c b r : ℕ) → c < 65536 → countOf roll c < 65536 → r < 256
+    → Earlier key rounds roll c (issuedGrant key rounds roll c b r)
+is-earlier key rounds s roll c b r hc hn hr =
+    let e = deciphers key rounds s roll c b r hr in
+    let count = ap countIn e ∙ reads-count c (countOf roll c) b r hn in
+    record { names = ap contractorIn e ∙ reads-contractor c (countOf roll c) b r hc; not-above = omega (arith, count) }
+
+module _ (key : List ℕ) (rounds : ℕ) (roll : Roll) (contractor : ℕ) (grant : List ℕ) (g : Earlier key rounds roll contractor grant) where
+  -- where the count has risen, they open nothing
+  risen : (later : Roll) → countOf roll contractor < countOf later contractor → OpensNothing key rounds later grant
+  risen later l b r e =
+      let p = openedGrant key rounds grant in
+      let same = eqb-true (countIn p) (countOf later (contractorIn p)) (passed key rounds later grant b r e .1 .same-count) in
+      let z : countIn p ≡ countOf later contractor = same ∙ ap (countOf later) (g .names) in
+      omega (arith, l, g .not-above, z)
+
+  pub earlier-revoked : IsRoll roll → (hs : List Change) → Withdrawn contractor hs roll → OpensNothing key rounds (rollAfter hs roll) grant
+  earlier-revoked z hs w = risen (rollAfter hs roll) (counted-up hs roll z contractor w)
+
 module _ (key : List ℕ) (rounds : ℕ) (roll : Roll) (contractor block right : ℕ) (out : List ℕ)
     (i : Issued key rounds roll contractor block right out) where
   allowed : NoneHolds (issueTries key rounds roll contractor block right out)
   allowed = all-pass (issueTries key rounds roll contractor block right out) refl (i .number)
 
-  asked : isRight right ≡ true
-  asked = allowed .1 .1 .1 .1 .0
+  wanted : WantedPassed (length out) contractor block right (entryOf roll contractor)
+  wanted = wanted-passed (length out) contractor block right (entryOf roll contractor) (allowed .1 .1)
 
   count-small : countOf roll contractor < 65536
-  count-small = omega (arith, a-standing (countOf roll contractor) (allowed .1 .1 .1 .1 .1 .0) .below)
+  count-small = omega (arith, a-standing (countOf roll contractor) (wanted .stands) .below)
 
   number-of : Contractor contractor
-  number-of = a-contractor contractor (allowed .1 .1 .1 .0)
+  number-of = a-contractor contractor (wanted .known)
+
+  settings : Settings key rounds
+  settings = record { bytes = i .key-bytes; length-allowed = allowed .0; rounds-allowed = allowed .1 .0 }
+
+  right-byte : right < 256
+  right-byte = omega (arith, right-small right (wanted .asked))
 
   -- deciphered, the issued grant is its plain bytes
   deciphered : openedGrant key rounds (issuedGrant key rounds roll contractor block right) ≡ plainGrant contractor (countOf roll contractor) block right
-  unfolding openedGrant issuedGrant DeciphersWhatWasEnciphered
-  deciphered =
-      let h = right-small right asked in
-      let n = countOf roll contractor in
-      deciphers-what-was-enciphered key rounds (plainGrant contractor n block right)
-      record { bytes = i .key-bytes; length-allowed = allowed .0; rounds-allowed = allowed .1 .0 }
-      record { bytes = plain-bytes contractor n block right (omega arith); twelve = plain-twelve contractor n block right }
+  deciphered = deciphers key rounds settings roll contractor block right right-byte
 
   -- the grant opens for what its right covers
   opening : (r : ℕ) → covers right r ≡ true → Opening key rounds roll (issuedGrant key rounds roll contractor block right) block r
   opening r covered =
-      let s = a-standing (countOf roll contractor) (allowed .1 .1 .1 .1 .1 .0) in
+      let s = a-standing (countOf roll contractor) (wanted .stands) in
       record {
         key-length = allowed .0;
         round-count = allowed .1 .0;
         twelve = issued-twelve key rounds roll contractor block right;
         asked = one-or-two r (covered-right right r covered);
+        some-block = other-than-zero block (wanted .some-block);
         contractor = contractor;
         count = countOf roll contractor;
         granted = right;
@@ -96,7 +131,7 @@ module _ (key : List ℕ) (rounds : ℕ) (roll : Roll) (contractor block right :
         on-roll = refl;
         odd = s .odd;
         below = s .below;
-        within = within-is r _ (covered-within right r _ covered (allowed .1 .1 .1 .1 .1 .1 .0));
+        within = within-is r _ (covered-within right r _ covered (wanted .within));
       }
 
   abbrev g : List ℕ
@@ -107,15 +142,17 @@ module _ (key : List ℕ) (rounds : ℕ) (roll : Roll) (contractor block right :
 
   -- what the issued grant names
   names : Named p contractor (countOf roll contractor) block right
-  names = named p contractor (countOf roll contractor) block right deciphered (number-of .least) (number-of .most) count-small (i .block-small) asked
+  names = named p contractor (countOf roll contractor) block right deciphered (number-of .least) (number-of .most) count-small (i .block-small)
+      (wanted .asked)
 
-  -- its check, for any size block and either right, comes to what was asked for
-  comes-to-asked : (b r : ℕ) → isRight r ≡ true
+  -- its check, for any size block but 0 and either right, comes to what was asked for
+  comes-to-asked : (b r : ℕ) → isSizeBlock b ≡ true → isRight r ≡ true
       → checkNumber key rounds roll g b r ≡ first (askedTries p b r ++ standingTries p (entryNow key rounds roll g) r)
-  comes-to-asked b r q =
+  comes-to-asked b r z q =
       let l = eq-eqb (length g) 12 (issued-twelve key rounds roll contractor block right) in
-      first-then (inputTries (length key) rounds (eqb (length g) 12) r) (plainTries p (entryNow key rounds roll g) b r)
-      (allowed .0, (allowed .1 .0, (l, (q, tt))))
+      first-then (inputTries (length key) rounds (eqb (length g) 12) b r) (plainTries p (entryNow key rounds roll g) b r)
+      (input-passes (length key) rounds (eqb (length g) 12) b r []
+      record { key-length = allowed .0; round-count = allowed .1 .0; long = l; asked = q; some-block = z } tt)
       ∙ first-passes _ _ (names .grant)
 
   -- for a right that its own covers, and for one that it doesn't
@@ -125,7 +162,7 @@ module _ (key : List ℕ) (rounds : ℕ) (roll : Roll) (contractor block right :
 
   pub issued-not-covered : (r : ℕ) → isRight r ≡ true → covers right r ≡ false → checkNumber key rounds roll g block r ≡ 10
   issued-not-covered r q uncovered =
-      comes-to-asked block r q ∙ first-passes _ _ (eq-eqb (sizeBlockIn p) block (names .block))
+      comes-to-asked block r (wanted .some-block) q ∙ first-passes _ _ (eq-eqb (sizeBlockIn p) block (names .block))
       ∙ first-holds _ _ (ap (λ (n : ℕ). covers n r) (names .right) ∙ uncovered)
 
   pub checks : Checks key rounds roll contractor block right
@@ -133,26 +170,26 @@ module _ (key : List ℕ) (rounds : ℕ) (roll : Roll) (contractor block right :
   checks =
       let l = eq-eqb (length g) 12 (issued-twelve key rounds roll contractor block right) in
       record {
-        opens = issued-covered right (covers-itself right asked);
+        opens = issued-covered right (covers-itself right (wanted .asked));
         looks = λ e. issued-covered 1 (ap (λ (r : ℕ). covers r 1) e);
         only-reads = λ e. issued-not-covered 2 refl (ap (λ (r : ℕ). covers r 2) e);
         no-right = λ r q. first-passes _ _ (allowed .0) ∙ first-passes _ _ (allowed .1 .0) ∙ first-passes _ _ l ∙ first-holds _ _ q;
-        other-block = λ b r d q. comes-to-asked b r q ∙ first-holds _ _ (ne-eqb (sizeBlockIn p) b (λ e. d (sym e ∙ names .block)));
+        other-block = λ b r d z q.
+            comes-to-asked b r (is-size-block b z) q ∙ first-holds _ _ (ne-eqb (sizeBlockIn p) b (λ e. d (sym e ∙ names .block)));
+        block-zero = λ r q.
+            first-passes _ _ (allowed .0) ∙ first-passes _ _ (allowed .1 .0) ∙ first-passes _ _ l ∙ first-passes _ _ q
+            ∙ first-holds _ _ (zero-is-none 0 refl);
       }
 
-  -- where the count has risen, the grant opens nothing
-  risen : (later : Roll) → countOf roll contractor < countOf later contractor
-      → OpensNothing key rounds later (issuedGrant key rounds roll contractor block right)
-  risen later l b r e =
-      let h = passed key rounds later g b r e in
-      let same = eqb-true (countIn p) (countOf later (contractorIn p)) (h .1 .1 .1 .1 .1 .1 .1 .1 .0) in
-      let z : countOf roll contractor ≡ countOf later contractor = sym (names .count) ∙ same ∙ ap (countOf later) (names .contractor) in
-      omega (arith, l)
+  -- it is one from before now
+  earlier : Earlier key rounds roll contractor (issuedGrant key rounds roll contractor block right)
+  earlier = is-earlier key rounds settings roll contractor block right (omega (arith, number-of .most)) count-small right-byte
 
   pub revoked : IsRoll roll → (hs : List Change) → Withdrawn contractor hs roll
       → OpensNothing key rounds (rollAfter hs roll) (issuedGrant key rounds roll contractor block right)
-  revoked z hs w = risen (rollAfter hs roll) (counted-up hs roll z contractor w)
+  revoked = earlier-revoked key rounds roll contractor g earlier
 
   pub revoked-asked : IsRoll roll → (hs : List Change) → Withdraws contractor hs
       → OpensNothing key rounds (rollAfter hs roll) (issuedGrant key rounds roll contractor block right)
-  revoked-asked z hs w = risen (rollAfter hs roll) (asked-counts hs roll z contractor (allowed .1 .1 .1 .0) (allowed .1 .1 .1 .1 .1 .0) w)
+  revoked-asked z hs w =
+      risen key rounds roll contractor g earlier (rollAfter hs roll) (asked-counts hs roll z contractor (wanted .known) (wanted .stands) w)

@@ -38,7 +38,7 @@ module _ (key : List ℕ) (rounds : ℕ) (roll other : Roll) (grant : List ℕ) 
   pub same-entry : entryOf other (contractorIn (openedGrant key rounds grant)) ≡ entryOf roll (contractorIn (openedGrant key rounds grant))
       → SameCheck key rounds roll other grant block asked
   same-entry e =
-      same-answers (ap (λ (m : Entry). first (inputTries (length key) rounds (eqb (length grant) 12) asked
+      same-answers (ap (λ (m : Entry). first (inputTries (length key) rounds (eqb (length grant) 12) block asked
       ++ plainTries (openedGrant key rounds grant) m block asked)) e)
 
 -- so of a grant after calls for others

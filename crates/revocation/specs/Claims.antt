@@ -1,5 +1,5 @@
 -- What is claimed of grants: demand 2's second half; document 01, "Roll and grant", "Reasons" and the order lines; request 1, "Looking before
--- overwriting"; request 6, "Demoting without dropping". A term of each type stands in proofs/Claims.antt.
+-- overwriting"; request 6, "Demoting without dropping"; request 7, "No more block zero". A term of each type stands in proofs/Claims.antt.
 use mathlib.Core.Bool.{true, false}
 use mathlib.Core.Logic.{_⊎_}
 use mathlib.Core.Path.{_≡_}
@@ -15,19 +15,21 @@ use Rattle.roll_changes.specs.Changes.{enterTries, enteredRoll, withdrawTries, 
 use Rattle.histories.specs.Histories.{Change, enter, change, withdraw, rollAfter, Withdrawn, Withdraws, Spares, Merge, IsRoll}
 use Rattle.grant.specs.declared.Verdict.{Verdict}
 use Rattle.rights.specs.Rights.{isRight, covers, highest}
-use Rattle.grant.specs.Grants.{plainGrant, contractorIn, rightIn, isGrant, verdictNumber, verdictContractor, verdictRight}
+use Rattle.key_lists.specs.Claims.{Settings}
+use Rattle.grant.specs.Grants.{plainGrant, contractorIn, countIn, rightIn, isGrant, verdictNumber, verdictContractor, verdictRight}
 use Rattle.issuing.specs.Issuing.{issueTries, issueNumber, issuedGrant}
 use Rattle.checking.specs.Checking.{openedGrant, checkTries, checkNumber, checkContractor, checkRight}
 
 -- ---- a grant opens exactly when
--- none of the input reasons holds; the grant deciphers to the plain bytes of a grant to a contractor, 1 to 200, for that size block and
--- with a right that covers the one asked for; the roll has that contractor in standing, with the count that is written in it; and the right asked for is
--- not above the highest that the roll has for them
+-- none of the input reasons holds, so that the size block asked for is not 0; the grant deciphers to the plain bytes of a grant to a contractor, 1 to
+-- 200, for that size block and with a right that covers the one asked for; the roll has that contractor in standing, with the count that is written in
+-- it; and the right asked for is not above the highest that the roll has for them
 pub record Opening (key : List ℕ) (rounds : ℕ) (roll : Roll) (grant : List ℕ) (block right : ℕ) : Type 0 where
   pub key-length : keyLength (length key) ≡ true
   pub round-count : roundsAllowed (length key) rounds ≡ true
   pub twelve : length grant ≡ 12
   pub asked : (right ≡ 1) ⊎ (right ≡ 2)
+  pub some-block : block ≡ 0 → ⊥
   pub contractor : ℕ
   pub count : ℕ
   pub granted : ℕ
@@ -72,15 +74,17 @@ pub record Issued (key : List ℕ) (rounds : ℕ) (roll : Roll) (contractor bloc
   pub number : issueNumber key rounds roll contractor block right out ≡ 0
 
 -- on the same roll the grant opens for its block and right; a grant to overwrite opens for reading too, answering reading, and one to read is refused
--- with 10 for overwriting. Otherwise it is as it was: for what is no right 7, and for another block 9, with either right
+-- with 10 for overwriting. For what is no right it is 7; for another block 9, with either right, and 14 where that block is 0
 pub record Checks (key : List ℕ) (rounds : ℕ) (roll : Roll) (contractor block right : ℕ) : Type 0 where
   pub opens : Accepted key rounds roll (issuedGrant key rounds roll contractor block right) block right contractor
   pub looks : right ≡ 2 → Accepted key rounds roll (issuedGrant key rounds roll contractor block right) block 1 contractor
   pub only-reads : right ≡ 1 → checkNumber key rounds roll (issuedGrant key rounds roll contractor block right) block 2 ≡ 10
   pub no-right : (asked : ℕ) → isRight asked ≡ false
       → checkNumber key rounds roll (issuedGrant key rounds roll contractor block right) block asked ≡ 7
-  pub other-block : (b asked : ℕ) → (b ≡ block → ⊥) → isRight asked ≡ true
+  pub other-block : (b asked : ℕ) → (b ≡ block → ⊥) → (b ≡ 0 → ⊥) → isRight asked ≡ true
       → checkNumber key rounds roll (issuedGrant key rounds roll contractor block right) b asked ≡ 9
+  pub block-zero : (asked : ℕ) → isRight asked ≡ true
+      → checkNumber key rounds roll (issuedGrant key rounds roll contractor block right) 0 asked ≡ 14
 
 unfoldable pub IssuedOpens : Type 0
 IssuedOpens = (key : List ℕ) (rounds : ℕ) (roll : Roll) (contractor block right : ℕ) (out : List ℕ)
@@ -123,8 +127,25 @@ TenOnlyForOverwriting = (key : List ℕ) (rounds : ℕ) (roll : Roll) (grant : L
 abbrev pub OpensNothing : List ℕ → ℕ → Roll → List ℕ → Type 0
 OpensNothing key rounds roll grant = (block right : ℕ) → checkNumber key rounds roll grant block right ≡ 0 → ⊥
 
--- whatever is entered, withdrawn and changed on the roll that a grant was issued from: once its contractor's withdrawal was accepted, it opens
--- nothing, under the key and round count that it was issued with
+-- a grant from before now, of a contractor's: it names them, and a count that is not above theirs on the roll
+pub record Earlier (key : List ℕ) (rounds : ℕ) (roll : Roll) (contractor : ℕ) (grant : List ℕ) : Type 0 where
+  pub names : contractorIn (openedGrant key rounds grant) ≡ contractor
+  pub not-above : countIn (openedGrant key rounds grant) ≤ countOf roll contractor
+
+-- such is every grant that was made as an issue from that roll makes it, for any size block and with any right: by the rules of before requests 6 and 7
+-- too, so that grants for size block 0 are among them
+unfoldable pub IssuedIsEarlier : Type 0
+IssuedIsEarlier = (key : List ℕ) (rounds : ℕ) → Settings key rounds → (roll : Roll) (contractor block right : ℕ)
+    → contractor < 65536 → countOf roll contractor < 65536 → right < 256
+    → Earlier key rounds roll contractor (issuedGrant key rounds roll contractor block right)
+
+-- whatever is entered, withdrawn and changed: once the contractor's withdrawal was accepted, it opens nothing, under that key and round count
+unfoldable pub EarlierNeverOpens : Type 0
+EarlierNeverOpens = (key : List ℕ) (rounds : ℕ) (roll : Roll) (contractor : ℕ) (grant : List ℕ)
+    → Earlier key rounds roll contractor grant → IsRoll roll
+    → (hs : List Change) → Withdrawn contractor hs roll → OpensNothing key rounds (rollAfter hs roll) grant
+
+-- and so for what an issue wrote that was not refused
 unfoldable pub RevokedNeverOpens : Type 0
 RevokedNeverOpens = (key : List ℕ) (rounds : ℕ) (roll : Roll) (contractor block right : ℕ) (out : List ℕ)
     → Issued key rounds roll contractor block right out → IsRoll roll

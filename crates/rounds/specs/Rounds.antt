@@ -16,7 +16,7 @@ round k a = added k (diffused (permuted (substituted a)))
 unfoldable pub lastRound : State → State → State
 lastRound k a = added k (permuted (substituted a))
 
--- the rounds under subkeys 1 to R. The paper has R of 1 or more; no subkey is no round, by convention
+-- the rounds under subkeys 1 to R. The formula of the paper needs R of 1 or more; no subkey is no round, by convention
 unfoldable pub rounds : List State → State → State
 rounds [] a = a
 rounds (k ∷ []) a = lastRound k a

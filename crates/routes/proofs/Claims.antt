@@ -7,7 +7,10 @@ use Rattle.refusal.proofs.Answers.{answer-refused}
 use Rattle.holder.specs.Holder.{whole, blank, stepped}
 use Rattle.holder_walk.specs.Walk.{walked, walkTries, walkNumber, walkHolder}
 use Rattle.holder_steps.specs.Steps.{holderTries, holderNumber, stepHolder}
-use Rattle.routes.specs.Claims.{AnyRoute, FullTurn, WalkIsShortest, RefusalKeepsHolder, BrokenIsRefused, BlankIsRefused}
+use lib.ListN.{length}
+use Rattle.refusal.proofs.Ladder.{ordered}
+use Rattle.holder_from_key.specs.FromKey.{makeTries, straightTries}
+use Rattle.routes.specs.Claims.{AnyRoute, FullTurn, WalkIsShortest, HolderInOrder, RefusalKeepsHolder, BrokenIsRefused, BlankIsRefused}
 use Rattle.routes.proofs.Ring.{shortest}
 use Rattle.routes.proofs.Routes.{any-route-of}
 use Rattle.routes.proofs.Held.{comes-home}
@@ -23,6 +26,15 @@ full-turn = comes-home
 pub walk-is-shortest : WalkIsShortest
 unfolding WalkIsShortest
 walk-is-shortest t s d hs hd = shortest t s d hs hd
+
+pub holder-in-order : HolderInOrder
+unfolding HolderInOrder
+holder-in-order key n h = record {
+  made = ordered (makeTries key) refl;
+  straight = ordered (straightTries (length key) n) refl;
+  steps = ordered (holderTries h) refl;
+  walks = ordered (walkTries h n) refl;
+}
 
 pub refusal-keeps-holder : RefusalKeepsHolder
 unfolding RefusalKeepsHolder stepHolder walkHolder

@@ -6,6 +6,7 @@ use mathlib.Core.List.{List}
 use Prim.Native.Nat.{ℕ, _*_, _≤_, _<_}
 use lib.ListN.{length}
 use Rattle.basics.specs.Bytes.{AreBytes}
+use Rattle.refusal.specs.Claims.{Ordered}
 use Rattle.sizes.specs.Sizes.{keyLength, tOf, turn}
 use Rattle.basics.specs.Repeated.{repeated}
 use Rattle.cycle.specs.Cycle.{following, preceding}
@@ -13,9 +14,9 @@ use Rattle.holder.specs.declared.Holder.{Holder}
 use Rattle.holder.specs.declared.Way.{Way}
 use Rattle.holder.specs.declared.Way.the-variants.{Forward, Back}
 use Rattle.holder.specs.Holder.{tHeld, whole, holderAt, blank}
-use Rattle.holder_walk.specs.Walk.{ringDistance, wayTo, walkNumber, walkHolder}
-use Rattle.holder_from_key.specs.FromKey.{makeNumber, madeHolder, straightNumber, straightHolder}
-use Rattle.holder_steps.specs.Steps.{holderNumber, stepHolder}
+use Rattle.holder_walk.specs.Walk.{ringDistance, wayTo, walkTries, walkNumber, walkHolder}
+use Rattle.holder_from_key.specs.FromKey.{makeTries, straightTries, makeNumber, madeHolder, straightNumber, straightHolder}
+use Rattle.holder_steps.specs.Steps.{holderTries, holderNumber, stepHolder}
 use Rattle.routes.specs.Routes.{Call, lastHolder, answers, lastPlace, expectedAnswers}
 
 -- 6t steps on end, all forward or all back, from a whole holder: none is refused, and the holder after them is the one before
@@ -60,12 +61,23 @@ pub record Shortest (t s d : ℕ) : Type 0 where
 unfoldable pub WalkIsShortest : Type 0
 WalkIsShortest = (t s d : ℕ) → s < turn t → d < turn t → Shortest t s d
 
+-- each refusal has its reason, and the first in order is given: of the making, the straight stage, steps with the request for the subkey, and walks
+pub record HolderOrdered (key : List ℕ) (n : ℕ) (h : Holder) : Type 0 where
+  pub made : Ordered (makeTries key)
+  pub straight : Ordered (straightTries (length key) n)
+  pub steps : Ordered (holderTries h)
+  pub walks : Ordered (walkTries h n)
+
+unfoldable pub HolderInOrder : Type 0
+HolderInOrder = (key : List ℕ) (n : ℕ) (h : Holder) → HolderOrdered key n h
+
 -- a refused call leaves the holder as it was handed in
 unfoldable pub RefusalKeepsHolder : Type 0
 RefusalKeepsHolder = (h : Holder)
     → ((way : Way) → 0 < holderNumber h → stepHolder way h ≡ h) × ((d : ℕ) → 0 < walkNumber h d → walkHolder h d ≡ h)
 
--- a holder that is not whole is refused with 24 by every call, and a walk to 6t or more too
+-- a holder that is not whole is refused with 24 by every call: by steps and the request for the subkey, and by every walk, one to 6t or more among
+-- them, since 24 is tried before 5
 pub record Refused (h : Holder) : Type 0 where
   pub steps : holderNumber h ≡ 24
   pub walks : (d : ℕ) → walkNumber h d ≡ 24

@@ -1,5 +1,4 @@
-// The S-box of a byte, computed from two mini-boxes of sixteen 4-bit numbers. These are kept as wide as an index, so that none has to be
-// widened for a look-up.
+// The S-box of a byte, computed from two mini-boxes of sixteen 4-bit numbers. What is computed between two look-ups is kept as wide as an index.
 
 ghost use mathlib.Core.Path.{_≡_};
 ghost use Prim.Native.Nat.{_%_, _<_};

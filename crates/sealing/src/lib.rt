@@ -34,23 +34,29 @@ fn seal_in(
     byte_slices::clear(scratch);
 }
 
-// The settings, the room, and the payload.
+// The settings, the room, the size block, and the payload.
 fn try_seal(
     first_key: &[u8],
     second_key: &[u8],
     rounds: u32,
+    size_block: u32,
     payload: &[u8],
     scratch: &[u8],
     out: &[u8],
 ) -> Outcome
     ensures { λ r. ⌜ outcomeNumber r
-        ≡ first (sealTries (now («first_key» .entry)) (now («second_key» .entry)) rounds (now (payload .entry)) (now (scratch .entry))
-        (now (out .entry))) ⌝ }
+        ≡ first (sealTries (now («first_key» .entry)) (now («second_key» .entry)) rounds «size_block» (now (payload .entry))
+        (now (scratch .entry)) (now (out .entry))) ⌝ }
 {
     let settings = key_pairs::try_pair(first_key, second_key, rounds);
     let room = basics::both(576 <= scratch.len(), 512 <= out.len());
     let fits = unless(settings, Reason::OutputTooShort, room);
-    unless(fits, Reason::PayloadTooLong, payload.len() <= 492)
+    let some = unless(
+        fits,
+        Reason::BlockZero,
+        size_blocks::is_size_block(size_block),
+    );
+    unless(some, Reason::PayloadTooLong, payload.len() <= 492)
 }
 
 // Seals a page: 512 bytes to the output.
@@ -65,16 +71,24 @@ pub fn seal(
     out: &mut [u8],
 ) -> Outcome
     ensures { λ r. ⌜ outcomeNumber r
-        ≡ sealNumber (now («first_key» .entry)) (now («second_key» .entry)) rounds (now (payload .entry)) (now (scratch .entry))
-        (now (out .entry)) ⌝ }
+        ≡ sealNumber (now («first_key» .entry)) (now («second_key» .entry)) rounds «size_block» (now (payload .entry))
+        (now (scratch .entry)) (now (out .entry)) ⌝ }
     ensures { λ _. ⌜ now (out .exit)
         ≡ sealOutput (now («first_key» .entry)) (now («second_key» .entry)) rounds «size_block» «page_number» (now (payload .entry))
         (now (scratch .entry)) (now (out .entry)) ⌝ }
     ensures { λ _. ⌜ now (scratch .exit)
-        ≡ sealScratch (now («first_key» .entry)) (now («second_key» .entry)) rounds (now (payload .entry)) (now (scratch .entry))
-        (now (out .entry)) ⌝ }
+        ≡ sealScratch (now («first_key» .entry)) (now («second_key» .entry)) rounds «size_block» (now (payload .entry))
+        (now (scratch .entry)) (now (out .entry)) ⌝ }
 {
-    let tried = try_seal(first_key, second_key, rounds, payload, scratch, out);
+    let tried = try_seal(
+        first_key,
+        second_key,
+        rounds,
+        size_block,
+        payload,
+        scratch,
+        out,
+    );
     if refusal::is_refused(tried) {
         return tried;
     }

@@ -1,5 +1,5 @@
--- Settings, a key and a round count: the start of document 01's order lines "cipher 1, 2, 3, 4", "prepared list 1, 2, 4", "issue 1, 2, .." and
--- "check 1, 2, ..", for a key of n bytes.
+-- Settings, a key and a round count: 1 and 2, with which document 01's order lines of the cipher, a prepared list, issue and check begin, and request 2's
+-- of the queue, for a key of n bytes.
 use mathlib.Core.List.{List, [], _∷_}
 use Prim.Native.Nat.{ℕ}
 use Rattle.refusal.specs.Tries.{Try, _unless_}

@@ -31,7 +31,7 @@ tOf n = n / 6
 abbrev pub roundsAllowed : ℕ → ℕ → Bool
 roundsAllowed n rounds = keyLength n && (leb (leastRounds (tOf n)) rounds && leb rounds (mostRounds (tOf n)))
 
--- what the code is handed with a t: it is 2, 3 or 4
+-- a t of the table: 2, 3 or 4
 pub record Sized (t : ℕ) : Type 0 where
   pub least : 2 ≤ t
   pub most : t ≤ 4

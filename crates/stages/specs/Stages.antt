@@ -50,7 +50,8 @@ entryOf t s j = 2 * t * (s - 1) + j
 unfoldable pub constant : ℕ → ℕ → List ℕ
 constant t s = fill (2 * t) (λ i j. byRow i (sbox (entryOf t s j)) 0 0)
 
--- stage 0 is the key; stage s is the linear step of (stage s - 1 plus constant s)
+-- stage 0 is the key; stage s is the linear step of (stage s - 1 plus constant s), for s up to 6t - 1. From 6t on it is defined, and is no stage of the
+-- key: after stage 6t - 1 comes stage 0 again
 unfoldable pub stage : ℕ → List ℕ → ℕ → List ℕ
 stage t key zero = key
 stage t key (suc s) = linearStep (2 * t) (plus (2 * t) (stage t key s) (constant t (suc s)))

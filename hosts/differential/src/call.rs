@@ -191,6 +191,7 @@ impl Call {
     /// a contractor nobody is in standing or has a highest right. And nobody in standing has a count
     /// that is spent, and who asks for no right does not ask for overwriting. Two keys for a page can
     /// be wrong for being equal, and everything else is then wrong or not as it is with other keys.
+    /// 14 looks at the size block that is asked for alone, so that it can hold with every other reason.
     fn silences(self, holding: u32, other: u32) -> bool {
         let silent: &[u32] = match (self, holding) {
             (Call::Check, 1) => &[2, 8, 9, 10, 20, 23, 25],

@@ -73,7 +73,8 @@ fn some_call(weights: &[(Call, usize)], random: &mut Random) -> Call {
     unreachable!("the weights add up to their sum")
 }
 
-/// A case in which no argument is wrong by itself. The roll may still have its reasons.
+/// A case in which no argument is wrong by itself, but now and then for size block 0. The roll may still
+/// have its reasons.
 fn right_case(call: Call, family: &Family, oracle: &mut Oracle, random: &mut Random) -> Case {
     let mut case = Case::new(call);
     match call {
@@ -212,7 +213,7 @@ fn with_standing(case: &mut Case, family: &Family, random: &mut Random) {
 fn with_request(case: &mut Case, family: &Family, random: &mut Random) {
     with_key(case, family, random);
     with_standing(case, family, random);
-    case.size_block = family::some_size_block(random);
+    case.size_block = family::any_size_block(random);
 }
 
 /// A grant, as issued or tampered with, asked for its right or the other one, and the roll of its
@@ -220,7 +221,7 @@ fn with_request(case: &mut Case, family: &Family, random: &mut Random) {
 fn with_grant(case: &mut Case, family: &Family, random: &mut Random) {
     let held = &family.held[random.below(family.held.len())];
     with_key(case, family, random);
-    case.size_block = held.size_block;
+    case.size_block = asked_block(held, random);
     case.right = held.right;
     if random.once_in(4) {
         case.right = READING + OVERWRITING - held.right;
@@ -230,6 +231,16 @@ fn with_grant(case: &mut Case, family: &Family, random: &mut Random) {
         _ => held.grant.clone(),
     };
     case.roll = some_roll(held, family, random);
+}
+
+/// The size block that is asked for of a grant: mostly the one that it names. If that is 0, it is another
+/// one once in two times, and if it is another one, it is now and then 0.
+fn asked_block(held: &Held, random: &mut Random) -> u32 {
+    match held.size_block {
+        0 if random.once_in(2) => family::some_size_block(random),
+        _ if random.once_in(16) => 0,
+        own => own,
+    }
 }
 
 /// The roll of a grant's issue, that roll after changes, or one of the family. Then often the contractor
@@ -255,13 +266,13 @@ fn some_roll(held: &Held, family: &Family, random: &mut Random) -> Vec<u8> {
     roll
 }
 
-/// Some grants on one roll, asked for one size block, that of the family's first grant, and for
+/// Some grants on one roll, asked for one size block, mostly that of the family's first grant, and for
 /// either right.
 fn with_queue(case: &mut Case, family: &Family, random: &mut Random) {
     let held = &family.held[0];
     case.key = family.key.clone();
     case.rounds = family.rounds;
-    case.size_block = held.size_block;
+    case.size_block = asked_block(held, random);
     case.right = random.pick(&[READING, OVERWRITING]);
     case.roll = some_roll(held, family, random);
     let mut grants: Vec<Vec<u8>> = match random.below(4) {

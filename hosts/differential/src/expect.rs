@@ -169,6 +169,7 @@ fn holds(case: &Case, reason: u32) -> bool {
         7 => case.right != READING && case.right != OVERWRITING,
         11 => !pages::has_form(&case.block),
         12 => case.block.len() > PAYLOAD_BYTES,
+        14 => case.size_block == 0,
         20 => own(case, count).map_or(false, |count| !in_standing(count)),
         21 => own(case, count).map_or(false, in_standing),
         22 => own(case, count).map_or(false, |count| count >= SPENT),
@@ -281,7 +282,7 @@ fn holds_of_grant(case: &Case, grant: Option<&Grant>, reason: u32) -> bool {
 }
 
 /// Of each grant in a queue, all reasons for which it does not open. The key, the round count, the
-/// lengths and the right are right.
+/// lengths, the right and the size block that are asked for are right.
 fn queued(case: &Case, oracle: &mut Oracle) -> Vec<Vec<u32>> {
     let order = Call::Check.reasons().iter().copied();
     let order: Vec<u32> = order.filter(|r| SEEN_IN_A_GRANT.contains(r)).collect();

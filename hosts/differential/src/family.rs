@@ -36,7 +36,7 @@ pub struct Family {
     pub pages: Vec<Sealed>,
 }
 
-/// A grant, the roll with which it opens, and what was made of the grant.
+/// A grant, the roll with which it opens unless it names size block 0, and what was made of the grant.
 pub struct Held {
     pub roll: Vec<u8>,
     pub contractor: u32,
@@ -84,7 +84,7 @@ impl Family {
         let grant = Grant {
             contractor: contractor as u16,
             count: count(&roll, contractor),
-            block: some_size_block(random),
+            block: any_size_block(random),
             right: random.pick(&[1, 2, 2]),
         };
         if u32::from(grant.right) == OVERWRITING {
@@ -138,10 +138,11 @@ impl Family {
     }
 }
 
-/// Plain bytes of a grant with something in them replaced.
+/// Plain bytes of a grant with something in them replaced. With size block 0 they are those of a grant
+/// that was issued before 14 was a reason.
 fn forged(plain: &[u8], random: &mut Random) -> Vec<u8> {
     let mut forged = plain.to_vec();
-    match random.below(6) {
+    match random.below(7) {
         0 => forged = one_bit_changed(plain, 72..96, random),
         1 => forged[9..].copy_from_slice(&random.bytes(3)),
         2 => {
@@ -150,6 +151,7 @@ fn forged(plain: &[u8], random: &mut Random) -> Vec<u8> {
         }
         3 => forged[8] = random.pick(&[0, 3, 4, 129, 130, 254, 255]),
         4 => forged[2..4].copy_from_slice(&some_count(random).to_be_bytes()),
+        5 => forged[4..8].fill(0),
         _ => forged = one_bit_changed(plain, 16..32, random),
     }
     forged
@@ -195,10 +197,30 @@ pub fn some_contractor(random: &mut Random) -> u32 {
     }
 }
 
-/// A size block, often at an end.
+/// A size block that may be asked for: often at an end, or one that would be 0 if it were cut to 8, 16
+/// or 24 bits.
 pub fn some_size_block(random: &mut Random) -> u32 {
-    let word = random.word();
-    random.pick(&[0, 1, u32::MAX, word, word, word])
+    let word = random.word().max(1);
+    let byte = 1 + random.below(255) as u32;
+    random.pick(&[
+        1,
+        u32::MAX,
+        byte << 8,
+        byte << 16,
+        byte << 24,
+        word,
+        word,
+        word,
+    ])
+}
+
+/// Any size block, once in six times 0: a grant or a page that was made before 14 was a reason can name
+/// it, and a blank form asks for it.
+pub fn any_size_block(random: &mut Random) -> u32 {
+    match random.below(6) {
+        0 => 0,
+        _ => some_size_block(random),
+    }
 }
 
 /// A number of a stage, often the first or the last.

@@ -65,7 +65,7 @@ pub fn draw_pages(family: &Family, oracle: &mut Oracle, random: &mut Random) -> 
     };
     let draw = |_| {
         let payload = some_payload(random);
-        let (size_block, page_number) = (family::some_size_block(random), some_page_number(random));
+        let (size_block, page_number) = (family::any_size_block(random), some_page_number(random));
         let header = pages::header(size_block, page_number, payload.len());
         let page = keys.sealed(&header, &payload, oracle);
         let tampered = (0..TAMPERED).map(|_| tampered(&keys, &page, &payload, oracle, random));
@@ -210,7 +210,8 @@ fn some_page_number(random: &mut Random) -> u16 {
     random.pick(&[0, 1, u16::MAX, word, word, word])
 }
 
-/// A payload to be sealed: one of the family, with its numbers, or a new one, which may be too long.
+/// A payload to be sealed: one of the family, with its numbers, or a new one, which may be too long. Now
+/// and then it is to be sealed for size block 0.
 pub fn with_payload(case: &mut Case, family: &Family, random: &mut Random) {
     with_keys(case, family, random);
     let sealed = &family.pages[random.below(PAGES)];
@@ -224,6 +225,9 @@ pub fn with_payload(case: &mut Case, family: &Family, random: &mut Random) {
         if random.once_in(4) {
             spoil_payload(&mut case.block, random);
         }
+    }
+    if random.once_in(5) {
+        case.size_block = 0;
     }
 }
 

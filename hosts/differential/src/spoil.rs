@@ -225,12 +225,13 @@ fn other_contractor(random: &mut Random) -> u32 {
     }
 }
 
-/// Another size block, or one that differs in one bit.
+/// Size block 0, another one, or one that differs in one bit.
 fn other_size_block(size_block: u32, random: &mut Random) -> u32 {
-    match random.below(6) {
-        0 => size_block.wrapping_add(1),
-        1 => size_block.swap_bytes(),
-        2 | 3 => size_block ^ (1 << random.below(32)),
+    match random.below(8) {
+        0..=2 => 0,
+        3 => size_block.wrapping_add(1),
+        4 => size_block.swap_bytes(),
+        5 | 6 => size_block ^ (1 << random.below(32)),
         _ => family::some_size_block(random),
     }
 }

@@ -9,8 +9,8 @@ use crate::expect::{Expected, SEEN_IN_A_GRANT};
 use crate::order::{self, LATE_11};
 
 /// The reasons that have a column. 0 stands for every answer that is no refusal.
-const COLUMNS: [u32; 21] = [
-    0, 1, 2, 3, 4, 5, 6, 7, 8, 9, 10, 11, 12, 13, LATE_11, 20, 21, 22, 23, 24, 25,
+const COLUMNS: [u32; 22] = [
+    0, 1, 2, 3, 4, 5, 6, 7, 8, 9, 10, 11, 12, 13, LATE_11, 14, 20, 21, 22, 23, 24, 25,
 ];
 
 /// A line of the table: a call, or a grant in a queue that is not refused as a whole, with its byte

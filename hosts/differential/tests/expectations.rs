@@ -13,6 +13,8 @@ use gordzila_differential::tally::Line;
 mod pages;
 #[path = "expectations/rights.rs"]
 mod rights;
+#[path = "expectations/zero.rs"]
+mod zero;
 
 /// Bytes from hex.
 fn hex(text: &str) -> Vec<u8> {
@@ -123,14 +125,18 @@ fn right(call: Call) -> Case {
     case
 }
 
-/// A grant for size block 300 and any contractor below 256, with any count below 256 and any byte as
-/// its right.
-fn grant_of(contractor: u8, count: u8, right: u8) -> Vec<u8> {
-    let plain = [
-        0, contractor, 0, count, 0, 0, 1, 44, right, 0x47, 0x52, 0x44,
-    ];
+/// A grant for any contractor below 256, with any count below 256, any size block and any byte as its
+/// right.
+fn grant_for(contractor: u8, count: u8, size_block: u32, right: u8) -> Vec<u8> {
+    let mut plain = [0, contractor, 0, count, 0, 0, 0, 0, right, 0x47, 0x52, 0x44];
+    plain[4..8].copy_from_slice(&size_block.to_be_bytes());
     let key: Vec<u8> = (0..12).collect();
     Oracle::new().block(Way::Encipher, &key, 10, &plain)
+}
+
+/// The same for size block 300.
+fn grant_of(contractor: u8, count: u8, right: u8) -> Vec<u8> {
+    grant_for(contractor, count, 300, right)
 }
 
 /// The grant of a right check, but with any byte as its right.
@@ -157,6 +163,7 @@ fn spoil(case: &mut Case, reason: u32) {
         11 => case.block[8] ^= 1,
         12 => case.block.resize(493, 1),
         13 => case.block[511] ^= 1,
+        14 => case.size_block = 0,
         LATE_11 => case.block = pages::filled_page(),
         20 => set_count(&mut case.roll, 7, 2),
         21 => set_count(&mut case.roll, 7, 1),
@@ -220,9 +227,9 @@ fn so_many_pairs_of_reasons_can_hold_together() {
         (Call::PrepareEnciphering, 3 - 1),
         (Call::PrepareDeciphering, 3 - 1),
         (Call::Run, 3),
-        (Call::Issue, 28 - 6),
-        (Call::Check, 45 - 26),
-        (Call::CheckQueue, 10 - 1),
+        (Call::Issue, 36 - 6),
+        (Call::Check, 55 - 26),
+        (Call::CheckQueue, 15 - 1),
         (Call::EmptyRoll, 0),
         (Call::Enter, 10 - 5),
         (Call::ChangeRight, 6 - 2),
@@ -234,14 +241,14 @@ fn so_many_pairs_of_reasons_can_hold_together() {
         (Call::HolderBack, 0),
         (Call::HolderWalk, 1),
         (Call::HolderSubkey, 1),
-        (Call::SealPage, 6),
+        (Call::SealPage, 10),
         (Call::OpenPage, 15 - 2),
     ];
     for (call, pairs) in table {
         assert_eq!(call.pairs().len(), pairs, "{}", call.name());
     }
     let all: usize = Call::ALL.iter().map(|call| call.pairs().len()).sum();
-    assert_eq!(all, 103);
+    assert_eq!(all, 130);
 }
 
 #[test]
@@ -250,12 +257,17 @@ fn these_pairs_of_reasons_can_hold_of_a_queue_and_in_a_grant_of_it() {
         (1, 3),
         (1, 4),
         (1, 7),
+        (1, 14),
         (2, 3),
         (2, 4),
         (2, 7),
+        (2, 14),
         (3, 4),
         (3, 7),
+        (3, 14),
         (4, 7),
+        (4, 14),
+        (7, 14),
     ];
     assert_eq!(Call::CheckQueue.pairs(), queue);
     let in_a_grant = [
@@ -781,7 +793,7 @@ fn a_queue_needs_a_byte_for_each_grant() {
 /// What is wrong with a queue of no grants is refused all the same.
 #[test]
 fn a_queue_of_no_grants_is_tried_too() {
-    for (reason, out) in [(1, 0), (2, 0), (3, 0), (7, 0), (7, 1)] {
+    for (reason, out) in [(1, 0), (2, 0), (3, 0), (7, 0), (7, 1), (14, 0), (14, 1)] {
         let mut case = queue_case(0, out);
         assert_eq!(answer(&case), 0);
         spoil(&mut case, reason);

@@ -20,6 +20,8 @@ mod pages;
 mod queue;
 #[path = "mutants/rights.rs"]
 mod rights;
+#[path = "mutants/zero.rs"]
+mod zero;
 
 const SEED: u64 = 7;
 const FAMILIES: u64 = 200;
@@ -579,6 +581,12 @@ fn limits_that_are_off_by_one_are_found() {
     });
     taken_for_something_else(Argument::Right, |lent| {
         lent.right -= u32::from(lent.right == 3);
+    });
+    taken_for_something_else(Argument::SizeBlock, |lent| {
+        lent.size_block += u32::from(lent.size_block == 0);
+    });
+    taken_for_something_else(Argument::SizeBlock, |lent| {
+        lent.size_block -= u32::from(lent.size_block == 1);
     });
     taken_for_something_else(Argument::Stage, |lent| {
         lent.stage -= u32::from(lent.stage == stages(lent) && lent.stage > 0);

@@ -34,7 +34,7 @@ fn the_program_finds_no_difference() {
         "{text}"
     );
     for pairs in [
-        "\npairs of reasons together: 103 of 103\n",
+        "\npairs of reasons together: 130 of 130\n",
         "\nthe same in a grant in a queue: 10 of 10\n",
     ] {
         assert!(text.contains(pairs), "{text}");
@@ -56,6 +56,8 @@ fn the_program_fails_if_something_never_occurs() {
     for missing in [
         "check with answer 23",
         "check_queue with reasons 3 and 4 together",
+        "check with reasons 14 and 8 together",
+        "seal_page with reasons 14 and 12 together",
         "open_page with answer late 11",
         "open_page with reasons 11 and late 11 together",
         "change_right with answer 20",

@@ -13,6 +13,8 @@ use gordzila_differential::work::{family_cases, FAMILY};
 mod pages;
 #[path = "situations/rights.rs"]
 mod rights;
+#[path = "situations/zero.rs"]
+mod zero;
 
 const SEED: u64 = 11;
 const FAMILIES: u64 = 600;
@@ -109,6 +111,10 @@ fn numbers_occur() {
     let rights = [0, 1, 2, 3, 257, 258, u32::MAX];
     occur(&ROLL[..5], &rights, |case| case.right);
     occur(&ROLL[..3], &[0, 1, u32::MAX], |case| case.size_block);
+    // Those that are 0 if they are cut to 8, 16 or 24 bits, and no less.
+    occur(&ROLL[..3], &[8, 16, 24], |case| {
+        case.size_block.trailing_zeros() / 8 * 8
+    });
     let stages: Vec<u32> = (0..=25).chain([u32::MAX]).collect();
     let taking = [Call::Stage, Call::Subkey, Call::HolderWalk];
     occur(&taking, &stages, |case| case.stage);

@@ -1,7 +1,7 @@
 -- `check_call::check` meets its contract.
 use mathlib.Core.Path.{_≡_, refl, sym, ap, ap₂, _∙_}
 use mathlib.Core.Bool.{Bool, _&&_}
-use mathlib.Core.List.{List, _++_}
+use mathlib.Core.List.{List, [], _++_}
 use Prim.Native.Nat.{ℕ, _+_, _*_}
 use denote.Ref.{now}
 use lib.Dec.{eqb}
@@ -16,6 +16,7 @@ use Rattle.roll.specs.Roll.{entryOf}
 use Rattle.roll_bytes.specs.RollBytes.{rollLength, rollOf}
 use Rattle.grant.specs.Grants.{contractorIn}
 use Rattle.judging.specs.Judging.{inputTries, plainTries}
+use Rattle.judging.proofs.Passed.{input-passed}
 use Rattle.checking.specs.Checking.{openedGrant, entryNow}
 use Rattle.check_call.specs.CheckCall.{callCode}
 use Rattle.check_call.proofs.Codes.{contractor-most, call-refused, call-judged}
@@ -30,7 +31,7 @@ start c = let k = c .before .before .before in k .before .before .before
 abbrev input : tie.Start → List Try
 input s =
     let a = s .args in
-    inputTries (length (now (a .key))) (a .rounds) (eqb (length (now (a .roll))) rollLength && eqb (length (now (a .grant))) 12) (a .right)
+    inputTries (length (now (a .key))) (a .rounds) (eqb (length (now (a .roll))) rollLength && eqb (length (now (a .grant))) 12) (a .size-block) (a .right)
 
 abbrev rest : tie.Start → List ℕ → Entry → List Try
 rest s p n = plainTries p n (s .args .size-block) (s .args .right)
@@ -43,7 +44,7 @@ tried : (c : tie.After-is-refused) → outcomeNumber (c .before .try-input .resu
 tried c =
     let a = start c .args in
     c .before .try-input .ensures
-    ∙ ap (λ (b : Bool). first (inputTries (length (now (a .key))) (a .rounds) b (a .right))) (c .before .before .are-lengths .ensures)
+    ∙ ap (λ (b : Bool). first (inputTries (length (now (a .key))) (a .rounds) b (a .size-block) (a .right))) (c .before .before .are-lengths .ensures)
 
 passed : (c : tie.Else1) → NoneHolds (input (start (c .before)))
 passed c = all-passed _ (input (start (c .before))) (tried (c .before)) _ (c .before .is-refused .ensures) refl (c .if1 .left)
@@ -62,10 +63,11 @@ returns c =
 
 open-requires : tie.Need-open-requires
 open-requires c κs =
-    let p = passed c in
     let a = start (c .before) .args in
-    let twelve = and-second (eqb (length (now (a .roll))) rollLength) (eqb (length (now (a .grant))) 12) (p .1 .1 .0) in
-    record { key = p .0; round-count = p .1 .0; twelve = eqb-true _ _ twelve }
+    let roll = eqb (length (now (a .roll))) rollLength in
+    let grant = eqb (length (now (a .grant))) 12 in
+    let p = input-passed (length (now (a .key))) (a .rounds) (roll && grant) (a .size-block) (a .right) [] (passed c) .0 in
+    record { key = p .key-length; round-count = p .round-count; twelve = eqb-true _ _ (and-second roll grant (p .long)) }
 
 verdict-code-requires : tie.Need-verdict-code-requires
 verdict-code-requires c κs =

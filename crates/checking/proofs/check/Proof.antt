@@ -1,6 +1,6 @@
 -- `checking::check` meets its contract.
 use mathlib.Core.Path.{refl, sym, ap, ap₂, _∙_}
-use mathlib.Core.List.{List}
+use mathlib.Core.List.{List, []}
 use Prim.Native.Nat.{ℕ}
 use denote.Ref.{now}
 use lib.Dec.{eqb}
@@ -17,6 +17,7 @@ use Rattle.grant.specs.Grants.{contractorIn}
 use Rattle.judging.specs.Judging.{inputTries, plainTries}
 use Rattle.checking.specs.Checking.{openedGrant, entryNow, checkTries, checkContractor, checkRight}
 use Rattle.judging.proofs.Verdicts.{verdict-refused, verdict-passed}
+use Rattle.judging.proofs.Passed.{input-passed}
 use borrow.Author.Needs.{needs}
 use Rattle.checking.proofs.check.Statement.{statement}
 use Rattle.checking.proofs.check.Tie as tie
@@ -26,7 +27,7 @@ start c = c .before .before .before
 
 -- what is tried of the input, the grant's plain bytes, and what is tried of them
 abbrev input : tie.Start → List Try
-input s = let a = s .args in inputTries (length (now (a .key))) (a .rounds) (eqb (length (now (a .grant))) 12) (a .right)
+input s = let a = s .args in inputTries (length (now (a .key))) (a .rounds) (eqb (length (now (a .grant))) 12) (a .size-block) (a .right)
 
 abbrev plain : tie.Start → List ℕ
 plain s = let a = s .args in openedGrant (now (a .key)) (a .rounds) (now (a .grant))
@@ -53,7 +54,10 @@ returns c =
     (first-before (input s) (rest s) _ (reason-positive (t .0 .0)) (sym (k .try-input .ensures) ∙ ap outcomeNumber (t .1)))
 
 open-requires : tie.Need-open-requires
-open-requires c κs = let p = passed c in record { key = p .0; round-count = p .1 .0; twelve = eqb-true _ _ (p .1 .1 .0) }
+open-requires c κs =
+    let a = start (c .before .before) .args in
+    let p = input-passed (length (now (a .key))) (a .rounds) (eqb (length (now (a .grant))) 12) (a .size-block) (a .right) [] (passed c) .0 in
+    record { key = p .key-length; round-count = p .round-count; twelve = eqb-true _ _ (p .long) }
 
 returns-2 : tie.Need-returns-2
 unfolding checkContractor checkRight

@@ -16,6 +16,7 @@ use Rattle.roll.specs.Roll.{entryOf}
 use Rattle.roll_bytes.specs.RollBytes.{rollOf, rollTries}
 use Rattle.grant.specs.Grants.{plainGrant}
 use Rattle.issuing.specs.Issuing.{wantedTries, issuedGrant}
+use Rattle.issuing.proofs.Passed.{wanted-passed}
 use Rattle.issue_call.specs.IssueCall.{issueCallTries, issueCallOutput}
 use borrow.Author.Needs.{needs}
 use Rattle.issue_call.proofs.issue.Statement.{statement}
@@ -35,7 +36,7 @@ tried c =
     let a = start c .args in
     let settings = settingsTries (length (now (a .key))) (a .rounds) in
     let long = rollTries (length (now (a .roll))) in
-    let wanted : Entry → List Try = wantedTries (length (now (a .out))) (a .contractor) (a .right) in
+    let wanted : Entry → List Try = wantedTries (length (now (a .out))) (a .contractor) (a .size-block) (a .right) in
     let r = c .before .before .before in
     then _ _ (settings ++ long) (wanted (entryOf (rollOf (now (a .roll))) (a .contractor))) refl
     (then _ _ settings long refl (r .before .try-settings .ensures) (r .try-roll .ensures))
@@ -54,7 +55,10 @@ write-grant-requires : tie.Need-write-grant-requires
 write-grant-requires c κs =
     let k = c .before .before in
     let p = all-passed _ (tries (start k)) (tried k) _ (k .is-refused .ensures) refl (c .before .if1 .left) in
-    record { key = p .0; round-count = p .1 .0; asked = p .1 .1 .1 .1 .1 .0; fits = leb-true _ _ (p .1 .1 .1 .0) }
+    let a = start k .args in
+    let entry = entryOf (rollOf (now (a .roll))) (a .contractor) in
+    let w = wanted-passed (length (now (a .out))) (a .contractor) (a .size-block) (a .right) entry (p .1 .1 .1) in
+    record { key = p .0; round-count = p .1 .0; asked = w .asked; fits = leb-true _ _ (w .fits) }
 
 returns-2 : tie.Need-returns-2
 unfolding issueCallOutput issuedGrant cipherBlock

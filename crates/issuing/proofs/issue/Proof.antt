@@ -15,6 +15,7 @@ use Rattle.roll.specs.declared.Entry.{Entry}
 use Rattle.roll.specs.Roll.{entryOf}
 use Rattle.grant.specs.Grants.{plainGrant}
 use Rattle.issuing.specs.Issuing.{wantedTries, issueTries, issuedGrant, issueOutput}
+use Rattle.issuing.proofs.Passed.{wanted-passed}
 use borrow.Author.Needs.{needs}
 use Rattle.issuing.proofs.issue.Statement.{statement}
 use Rattle.issuing.proofs.issue.Tie as tie
@@ -31,7 +32,7 @@ grant s = let a = s .args in issuedGrant (now (a .key)) (a .rounds) (a .roll) (a
 tried : (c : tie.After-is-refused) → outcomeNumber (c .before .try-issue .result) ≡ first (tries (start c))
 tried c =
     let a = start c .args in
-    let wanted : Entry → List Try = wantedTries (length (now (a .out))) (a .contractor) (a .right) in
+    let wanted : Entry → List Try = wantedTries (length (now (a .out))) (a .contractor) (a .size-block) (a .right) in
     then _ _ (settingsTries (length (now (a .key))) (a .rounds)) (wanted (entryOf (a .roll) (a .contractor))) refl
     (c .before .before .try-settings .ensures)
     (c .before .try-issue .ensures
@@ -48,7 +49,9 @@ write-grant-requires : tie.Need-write-grant-requires
 write-grant-requires c κs =
     let k = c .before .before in
     let p = all-passed _ (tries (start k)) (tried k) _ (k .is-refused .ensures) refl (c .before .if1 .left) in
-    record { key = p .0; round-count = p .1 .0; asked = p .1 .1 .1 .1 .0; fits = leb-true _ _ (p .1 .1 .0) }
+    let a = start k .args in
+    let w = wanted-passed (length (now (a .out))) (a .contractor) (a .size-block) (a .right) (entryOf (a .roll) (a .contractor)) (p .1 .1) in
+    record { key = p .0; round-count = p .1 .0; asked = w .asked; fits = leb-true _ _ (w .fits) }
 
 returns-2 : tie.Need-returns-2
 unfolding issueOutput issuedGrant cipherBlock

@@ -9,6 +9,8 @@ use Rattle.refusal.specs.Reasons.{outcomeNumber}
 use Rattle.refusal.specs.Tries.{Try, first}
 use Rattle.refusal.proofs.Ladder.{all-passed, returns-refused, returns-done}
 use Rattle.queue.specs.Queue.{queueAnswers, queueTries, queueOutput}
+use Rattle.queue_parts.specs.QueueParts.{queueLength}
+use Rattle.queue_parts.proofs.Passed.{queue-passed}
 use Rattle.queue.proofs.Answered.{tried-with, Passed, fills, list-length, list-inside, answerable, all-answered}
 use borrow.Author.Needs.{needs}
 use Rattle.queue.proofs.check.Statement.{statement}
@@ -21,7 +23,7 @@ abbrev start : tie.After-is-refused → tie.Start
 start c = known c .before
 
 abbrev tries : tie.Start → List Try
-tries s = queueTries (now (s .args .key)) (s .args .rounds) (now (s .args .grants)) (s .args .right) (now (s .args .answers))
+tries s = let a = s .args in queueTries (now (a .key)) (a .rounds) (now (a .grants)) (a .size-block) (a .right) (now (a .answers))
 
 abbrev answers : tie.Start → List ℕ
 answers s = let a = s .args in queueAnswers (now (a .key)) (a .rounds) (a .roll) (now (a .grants)) (a .size-block) (a .right)
@@ -29,14 +31,14 @@ answers s = let a = s .args in queueAnswers (now (a .key)) (a .rounds) (a .roll)
 tried : (c : tie.After-is-refused) → outcomeNumber (c .before .try-queue .result) ≡ first (tries (start c))
 tried c =
     let a = start c .args in
-    tried-with (length (now (a .key))) (a .rounds) _ _ (length (now (a .grants))) (length (now (a .answers))) (a .right) _
+    tried-with (length (now (a .key))) (a .rounds) _ _ (length (now (a .grants))) (length (now (a .answers))) (a .size-block) (a .right) _
     (c .before .try-queue .ensures) (c .before .before .is-queue-length .ensures)
 
-passed : (c : tie.Else1) → let a = start (c .before) .args in Passed (now (a .key)) (a .rounds) (now (a .grants)) (now (a .answers)) (a .right)
+passed : (c : tie.Else1) → let a = start (c .before) .args in
+    Passed (now (a .key)) (a .rounds) (queueLength (length (now (a .grants)))) (now (a .grants)) (now (a .answers)) (a .size-block) (a .right)
 passed c =
     let k = c .before in
-    let p = all-passed _ (tries (start k)) (tried k) _ (k .is-refused .ensures) refl (c .if1 .left) in
-    record { key-length = p .0; round-count = p .1 .0; room = p .1 .1 .1 .0; asked = p .1 .1 .1 .1 .0 }
+    record { tried = queue-passed _ _ _ _ _ _ _ (all-passed _ (tries (start k)) (tried k) _ (k .is-refused .ensures) refl (c .if1 .left)) }
 
 returns : tie.Need-returns
 unfolding queueOutput
@@ -57,7 +59,7 @@ returns-2 c =
     let a = s .args in
     let r = returns-done _ (tries s) (tried (k .before)) _ (k .before .is-refused .ensures) (answers s) (now (a .answers)) (k .if1 .left) in
     let bytes : AreBytes (now (a .key)) = λ i. known (k .before) .shared-slice-known .given i .fits in
-    let e = all-answered (passed k) (list f) _ (f .fill-for .ensures) bytes (a .roll) (a .size-block) _ (w .answer-all .ensures) in
+    let e = all-answered (passed k) (list f) _ (f .fill-for .ensures) bytes (a .roll) _ (w .answer-all .ensures) in
     (r .0, e ∙ r .1)
 
 pub check-spec : {M : Type 1} → statement M

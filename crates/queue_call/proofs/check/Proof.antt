@@ -13,6 +13,8 @@ use Rattle.refusal.proofs.Ladder.{all-passed, returns-refused, returns-done}
 use Rattle.roll_bytes.specs.RollBytes.{rollLength, rollOf}
 use Rattle.queue.specs.Queue.{queueAnswers}
 use Rattle.queue_call.specs.QueueCall.{callQueueTries, callQueueOutput}
+use Rattle.queue_parts.specs.QueueParts.{queueLength}
+use Rattle.queue_parts.proofs.Passed.{queue-passed}
 use Rattle.queue.proofs.Answered.{tried-with, Passed, fills, list-length, list-inside, answerable, all-answered}
 use borrow.Author.Needs.{needs}
 use Rattle.queue_call.proofs.check.Statement.{statement}
@@ -25,7 +27,9 @@ abbrev start : tie.After-is-refused → tie.Start
 start c = known c .before
 
 abbrev tries : tie.Start → List Try
-tries s = callQueueTries (now (s .args .key)) (s .args .rounds) (now (s .args .roll)) (now (s .args .grants)) (s .args .right) (now (s .args .answers))
+tries s =
+    let a = s .args in
+    callQueueTries (now (a .key)) (a .rounds) (now (a .roll)) (now (a .grants)) (a .size-block) (a .right) (now (a .answers))
 
 abbrev answers : tie.Start → List ℕ
 answers s = let a = s .args in queueAnswers (now (a .key)) (a .rounds) (rollOf (now (a .roll))) (now (a .grants)) (a .size-block) (a .right)
@@ -34,15 +38,16 @@ tried : (c : tie.After-is-refused) → outcomeNumber (c .before .try-queue .resu
 tried c =
     let a = start c .args in
     let b = c .before .before in
-    tried-with (length (now (a .key))) (a .rounds) _ _ (length (now (a .grants))) (length (now (a .answers))) (a .right) _
+    tried-with (length (now (a .key))) (a .rounds) _ _ (length (now (a .grants))) (length (now (a .answers))) (a .size-block) (a .right) _
     (c .before .try-queue .ensures)
     (b .both .ensures ∙ ap (λ (q : Bool). eqb (length (now (a .roll))) rollLength && q) (b .before .is-queue-length .ensures))
 
-passed : (c : tie.Else1) → let a = start (c .before) .args in Passed (now (a .key)) (a .rounds) (now (a .grants)) (now (a .answers)) (a .right)
+passed : (c : tie.Else1) → let a = start (c .before) .args in
+    let lengths = eqb (length (now (a .roll))) rollLength && queueLength (length (now (a .grants))) in
+    Passed (now (a .key)) (a .rounds) lengths (now (a .grants)) (now (a .answers)) (a .size-block) (a .right)
 passed c =
     let k = c .before in
-    let p = all-passed _ (tries (start k)) (tried k) _ (k .is-refused .ensures) refl (c .if1 .left) in
-    record { key-length = p .0; round-count = p .1 .0; room = p .1 .1 .1 .0; asked = p .1 .1 .1 .1 .0 }
+    record { tried = queue-passed _ _ _ _ _ _ _ (all-passed _ (tries (start k)) (tried k) _ (k .is-refused .ensures) refl (c .if1 .left)) }
 
 returns : tie.Need-returns
 unfolding callQueueOutput
@@ -65,7 +70,7 @@ returns-2 c =
     let a = s .args in
     let r = returns-done _ (tries s) (tried (k .before)) _ (k .before .is-refused .ensures) (answers s) (now (a .answers)) (k .if1 .left) in
     let bytes : AreBytes (now (a .key)) = λ i. known (k .before) .shared-slice-known .given i .fits in
-    let e = all-answered (passed k) (list f) _ (f .fill-for .ensures) bytes (rollOf (now (a .roll))) (a .size-block) _ (w .answer-all .ensures) in
+    let e = all-answered (passed k) (list f) _ (f .fill-for .ensures) bytes (rollOf (now (a .roll))) _ (w .answer-all .ensures) in
     (r .0, e ∙ r .1)
 
 pub check-spec : {M : Type 1} → statement M

@@ -20,16 +20,16 @@ start c = let t = c .before in let k = t .before .before .before in k .before .b
 abbrev tries : tie.Start → List Try
 tries s =
     let a = s .args in
-    sealTries (now (a .first-key)) (now (a .second-key)) (a .rounds) (now (a .payload)) (now (a .scratch)) (now (a .out))
+    sealTries (now (a .first-key)) (now (a .second-key)) (a .rounds) (a .size-block) (now (a .payload)) (now (a .scratch)) (now (a .out))
 
 abbrev page : tie.Start → List ℕ
 page s = let a = s .args in sealed (now (a .first-key)) (now (a .second-key)) (a .rounds) (a .size-block) (a .page-number) (now (a .payload))
 
 not-refused : (c : tie.Else1) → let a = start (c .before) .args in
-    Passed (now (a .first-key)) (now (a .second-key)) (a .rounds) (now (a .payload)) (now (a .scratch)) (now (a .out))
+    Passed (now (a .first-key)) (now (a .second-key)) (a .rounds) (a .size-block) (now (a .payload)) (now (a .scratch)) (now (a .out))
 not-refused c =
     let k = c .before in
-    passed _ _ _ _ _ _ (all-passed _ (tries (start k)) (k .before .try-seal .ensures) _ (k .is-refused .ensures) refl (c .if1 .left))
+    passed _ _ _ _ _ _ _ (all-passed _ (tries (start k)) (k .before .try-seal .ensures) _ (k .is-refused .ensures) refl (c .if1 .left))
 
 returns : tie.Need-returns
 unfolding sealOutput sealScratch
@@ -52,7 +52,7 @@ returns-2 c =
     let e = k .before .try-seal .ensures in
     let r = returns-done _ (tries s) e _ (k .is-refused .ensures) (page s) out (d .if1 .left) in
     let z = returns-done _ (tries s) e _ (k .is-refused .ensures) cleared scratch (d .if1 .left) in
-    let n = length-sealed (not-refused d) (s .args .size-block) (s .args .page-number) in
+    let n = length-sealed (not-refused d) (s .args .page-number) in
     let ep = ap (λ (x : List ℕ). x ++ drop 512 out) (w .seal-in .ensures .0) ∙ ap (λ (m : ℕ). page s ++ drop m out) (sym n) in
     let ez = ap (λ (x : List ℕ). x ++ drop 576 scratch) (w .seal-in .ensures .1) in
     (r .0, (ep ∙ r .1, ez ∙ ap (λ (m : ℕ). cleared ++ drop m scratch) (sym length-cleared) ∙ z .1))

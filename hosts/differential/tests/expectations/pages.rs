@@ -131,14 +131,23 @@ fn a_page_by_hand() {
     }
 }
 
-/// A size block, a page number, a used count, the header's bytes, and the answer.
+/// A size block, a page number, a used count, the header's bytes, and the answer. No page is sealed for
+/// size block 0, but one that is there opens.
 #[test]
 fn numbers_of_a_header_and_the_answer() {
     let table = [
         (0, 0, 0, "00000000 0000 0000", 0x8000_0000_0000_0000),
+        (1, 0, 0, "00000001 0000 0000", 0x8000_0000_0000_0001),
         (u32::MAX, 0, 0, "ffffffff 0000 0000", 0x8000_0000_ffff_ffff),
         (0, u16::MAX, 0, "00000000 ffff 0000", 0x8000_ffff_0000_0000),
         (0, 0, 492, "00000000 0000 01ec", 0x81ec_0000_0000_0000),
+        (
+            256,
+            u16::MAX,
+            492,
+            "00000100 ffff 01ec",
+            0x81ec_ffff_0000_0100,
+        ),
         (
             0x0102_0304,
             0x0506,
@@ -152,8 +161,11 @@ fn numbers_of_a_header_and_the_answer() {
         case.size_block = size_block;
         case.page_number = page_number;
         case.block = vec![1; used];
-        let page = effect(&case).written;
+        let plain = plain(size_block, page_number, used as u16, &case.block);
+        let page = sealed(&case, &plain);
         assert_eq!(page[..12], [hex(header), vec![0; 4]].concat());
+        let made: &[u8] = if size_block == 0 { &[] } else { &page };
+        assert_eq!(effect(&case).written, made, "{case}");
         let mut case = page_case(Call::OpenPage);
         case.block = page;
         assert_eq!(answer(&case), answered, "{case}");
@@ -326,6 +338,50 @@ fn unused_bytes_that_are_not_0() {
     assert_eq!(reasons(&case), [LATE_11]);
 }
 
+/// No page is sealed for size block 0, however long the payload is, and nothing is left of the try.
+#[test]
+fn sealing_for_size_block_0() {
+    for (length, found) in [(0, vec![14]), (492, vec![14]), (493, vec![14, 12])] {
+        let mut case = page_case(Call::SealPage);
+        case.size_block = 0;
+        case.block = vec![3; length];
+        assert_eq!(judged(&case), (found, vec![], vec![]), "{length}");
+        case.size_block = 1 << 24;
+        assert!(!reasons(&case).contains(&14), "{length}");
+    }
+    let mut case = page_case(Call::SealPage);
+    case.size_block = 0;
+    for (reason, found) in [(4, [4, 14]), (2, [2, 4]), (1, [1, 2])] {
+        spoil(&mut case, reason);
+        assert_eq!(reasons(&case)[..2], found);
+    }
+}
+
+/// A page that was sealed for size block 0 opens, and is refused for what another one is refused for.
+#[test]
+fn a_page_for_size_block_0() {
+    let mut right = page_case(Call::OpenPage);
+    right.block = sealed(&right, &plain(0, 7, 100, &PAYLOAD));
+    let opened = effect(&right);
+    assert_eq!(opened.answer, 1 << 63 | 100 << 48 | 7 << 32);
+    assert_eq!(opened.written[..100], PAYLOAD);
+    assert_eq!(opened.scratch, [0; 576]);
+    for &reason in Call::OpenPage.reasons() {
+        let mut case = right.clone();
+        match reason {
+            LATE_11 => case.block = sealed(&case, &plain(0, 7, 99, &PAYLOAD)),
+            _ => spoil(&mut case, reason),
+        }
+        assert_eq!(reasons(&case)[0], reason, "{case}");
+    }
+    // Another size block in the header, with the check of this one.
+    for place in 0..4 {
+        let mut case = right.clone();
+        case.block[place] = 1;
+        assert_eq!(reasons(&case)[0], 13, "{place}");
+    }
+}
+
 /// A page whose header was changed and whose check was made anew opens, with another first block.
 #[test]
 fn a_header_with_a_new_check() {
@@ -341,7 +397,18 @@ fn a_header_with_a_new_check() {
 
 #[test]
 fn these_pairs_of_reasons_can_hold_of_a_page() {
-    let sealing = [(1, 2), (1, 4), (1, 12), (2, 4), (2, 12), (4, 12)];
+    let sealing = [
+        (1, 2),
+        (1, 4),
+        (1, 14),
+        (1, 12),
+        (2, 4),
+        (2, 14),
+        (2, 12),
+        (4, 14),
+        (4, 12),
+        (14, 12),
+    ];
     assert_eq!(Call::SealPage.pairs(), sealing);
     let opening = [
         (1, 2),

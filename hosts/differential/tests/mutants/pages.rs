@@ -294,6 +294,7 @@ fn holds(call: Call, rule: Rule, reason: u32, lent: &Lent) -> bool {
             lent.block.length != PAGE_BYTES || !form(&copied(lent.block))
         }
         12 => lent.block.length > PAYLOAD_BYTES,
+        14 => lent.size_block == 0,
         13 => seen(rule, lent, |lists, page| !is_checked(lists, page)),
         _ => seen(rule, lent, |lists, page| {
             let unused = used(lent).min(PAYLOAD_BYTES);
@@ -507,6 +508,27 @@ fn other_limits_of_what_is_lent_are_found() {
     }
     for most in [491, 493, 480, 504, 512] {
         another_reason_is_found(12, |_, lent| Some(lent.block.length > most));
+    }
+}
+
+#[test]
+fn another_rule_on_size_block_0_is_found() {
+    for refuses in zero::OTHER_RULES {
+        another_reason_is_found(14, |_, lent| Some(refuses(lent.size_block)));
+    }
+}
+
+/// A page that names size block 0 is not refused. 14 is tried here in each place after 4.
+#[test]
+fn a_page_for_size_block_0_that_does_not_open_is_found() {
+    for place in 3..=Call::OpenPage.reasons().len() {
+        let mut order = Call::OpenPage.reasons().to_vec();
+        order.insert(place, 14);
+        others_are_found(Pages {
+            order: &order,
+            holds: &|one, lent| (one == 14).then(|| copied(lent.block).starts_with(&[0; 4])),
+            ..right(Call::OpenPage)
+        });
     }
 }
 

@@ -8,12 +8,12 @@ use gordzila_differential::rolls::{count, figure, is_contractor, set_count, set_
 use super::*;
 
 /// The grants in the queue that is lent.
-fn grants(lent: &Lent) -> usize {
+pub fn grants(lent: &Lent) -> usize {
     lent.block.length / BLOCK_BYTES
 }
 
 /// What is lent, with one of the grants for a single check.
-fn single(lent: &Lent, place: usize) -> Lent {
+pub fn single(lent: &Lent, place: usize) -> Lent {
     let mut one = *lent;
     one.block.start = one.block.start.wrapping_add(BLOCK_BYTES * place);
     one.block.length = BLOCK_BYTES;
@@ -21,7 +21,7 @@ fn single(lent: &Lent, place: usize) -> Lent {
 }
 
 /// The byte for what a single check answers.
-fn byte(answer: u64) -> u8 {
+pub fn byte(answer: u64) -> u8 {
     match answer {
         1000.. => 0,
         refusal => refusal as u8,
@@ -34,7 +34,7 @@ fn checked(lent: &Lent, place: usize) -> u8 {
 }
 
 /// Writes to a place of the output.
-fn write(lent: &Lent, place: usize, byte: u8) {
+pub fn write(lent: &Lent, place: usize, byte: u8) {
     assert!(place < lent.out.length);
     unsafe { *lent.out.start.wrapping_add(place) = byte };
 }
@@ -49,7 +49,7 @@ fn write_checked(lent: &Lent, grants: usize) {
 /// Tries a library in place of the queue: in at least one case it answers or writes something else
 /// than the archive, and in each such case, and no other, it is found out. It writes nothing but the
 /// output.
-fn other_queue_is_found(library: impl Fn(&Lent) -> u64 + Sync) {
+pub fn other_queue_is_found(library: impl Fn(&Lent) -> u64 + Sync) {
     always_found(Call::CheckQueue, |lent| {
         let before = copied(lent.out);
         let right = (archive(Call::CheckQueue, lent), copied(lent.out));
@@ -61,14 +61,14 @@ fn other_queue_is_found(library: impl Fn(&Lent) -> u64 + Sync) {
 
 /// What stands in the output where a queue is answered: before, and after. Only the bytes of its
 /// grants.
-struct Answered {
+pub struct Answered {
     before: Vec<u8>,
-    after: Vec<u8>,
+    pub after: Vec<u8>,
 }
 
 /// Tries a library that refuses as it has to, and otherwise writes another byte for each grant: what
 /// is made of its place and of what stood there and has to stand there.
-fn other_bytes_are_found(other: impl Fn(&Lent, usize, &Answered) -> u8 + Sync) {
+pub fn other_bytes_are_found(other: impl Fn(&Lent, usize, &Answered) -> u8 + Sync) {
     other_queue_is_found(|lent| {
         let before = copied(lent.out);
         let answer = archive(Call::CheckQueue, lent);
@@ -160,13 +160,13 @@ fn part_of_a_grant_that_is_not_refused_is_found() {
 
 #[test]
 fn a_queue_of_no_grants_that_is_refused_or_not_tried_is_found() {
-    for refusal in [1, 2, 3, 4, 7, 8] {
+    for refusal in [1, 2, 3, 4, 7, 8, 14] {
         other_queue_is_found(|lent| match archive(Call::CheckQueue, lent) {
             0 if grants(lent) == 0 => refusal,
             answer => answer,
         });
     }
-    for not_tried in [1, 2, 3, 7] {
+    for not_tried in [1, 2, 3, 7, 14] {
         other_queue_is_found(|lent| match archive(Call::CheckQueue, lent) {
             answer if answer == not_tried && lent.block.length == 0 => 0,
             answer => answer,
@@ -191,15 +191,16 @@ pub fn holds(reason: u32, lent: &Lent) -> bool {
             wrong_roll || !whole || grants(lent) > QUEUE_GRANTS
         }
         4 => lent.out.length < grants(lent),
+        14 => lent.size_block == 0,
         _ => ![1, 2].contains(&lent.right),
     }
 }
 
-/// 4 before 3 and 7 before 4 are among them.
+/// 4 before 3, 7 before 4 and 14 before 7 are among them.
 #[test]
 fn each_other_order_of_two_reasons_is_found() {
     let pairs = Call::CheckQueue.pairs();
-    assert_eq!(pairs.len(), 9);
+    assert_eq!(pairs.len(), 14);
     for (first, other) in pairs {
         other_queue_is_found(|lent| match archive(Call::CheckQueue, lent) {
             answer if answer == u64::from(first) && holds(other, lent) => u64::from(other),
@@ -249,14 +250,16 @@ fn reasons_that_are_tried_too_late_are_found() {
         }
         answer
     });
-    // 7 for each grant, as single checks say.
-    other_queue_is_found(|lent| match archive(Call::CheckQueue, lent) {
-        7 => {
-            write_checked(lent, grants(lent));
-            0
-        }
-        answer => answer,
-    });
+    // 7 or 14 for each grant, as single checks say.
+    for late in [7, 14] {
+        other_queue_is_found(|lent| match archive(Call::CheckQueue, lent) {
+            answer if answer == late => {
+                write_checked(lent, grants(lent));
+                0
+            }
+            answer => answer,
+        });
+    }
 }
 
 #[test]
@@ -388,7 +391,7 @@ fn a_wrong_byte_of_a_queue_is_found_at_every_place() {
 fn a_byte_taken_for_another_is_found() {
     let bytes = [0, 8, 9, 10, 20, 23, 25];
     for (from, next) in bytes.into_iter().zip(bytes.into_iter().cycle().skip(1)) {
-        for to in [next, 255] {
+        for to in [next, 14, 255] {
             other_bytes_are_found(|_, place, answered| match answered.after[place] {
                 byte if byte == from => to,
                 byte => byte,

@@ -16,7 +16,7 @@ const GIVING: [Call; 2] = [Call::Enter, Call::ChangeRight];
 /// Tries a library in place of a call: in at least one case it answers or writes something else than
 /// the archive, and in each such case, and no other, it is found out. It writes nothing but the roll
 /// and the output.
-fn other_is_found(call: Call, library: impl Fn(&Lent) -> u64 + Sync) {
+pub fn other_is_found(call: Call, library: impl Fn(&Lent) -> u64 + Sync) {
     always_found(call, |lent| {
         let parts = [lent.roll, lent.out];
         let before = parts.map(copied);
@@ -76,6 +76,7 @@ fn holds(call: Call, reason: u32, lent: &Lent) -> bool {
         4 => lent.out.length < 12,
         6 => !is_contractor(lent.contractor),
         7 => ![1, 2].contains(&lent.right),
+        14 => lent.size_block == 0,
         20 => counted(|count| !in_standing(count)),
         21 => counted(in_standing),
         22 => counted(|count| count >= 65_534),
@@ -94,8 +95,8 @@ fn holds_of_plain(plain: &[u8; 12], reason: u32, lent: &Lent) -> bool {
     }
 }
 
-/// Among them are 25 before each reason of an issue or a check that can hold with it, and 20, 21 and 22
-/// before 7.
+/// Among them are 25 before each reason of an issue or a check that can hold with it, 20, 21 and 22 before
+/// 7, and 14 before each reason that comes before it and after each that comes after it.
 #[test]
 fn each_other_order_of_two_reasons_is_found() {
     for call in [&Call::ON_ROLL[..], &[Call::Issue, Call::Check]].concat() {

@@ -10,7 +10,7 @@ use gordzila_differential::work::page_cases;
 use super::*;
 
 /// The families with pages among which all is looked for. The first of them are among the others.
-const PAGED: u64 = 24;
+const PAGED: u64 = 32;
 
 /// Their cases. Those that are not among the others are drawn once, by the test that comes first.
 fn on_pages() -> &'static [(Case, Expected)] {
@@ -65,6 +65,10 @@ fn lengths_and_numbers_occur() {
     let pages = [512, 0, 12, 504, 511, 513, 768, 66_048];
     occur_on(&[Call::OpenPage], &pages, |case| case.block.len());
     occur_on(&[Call::SealPage], &[0, 1, u32::MAX], |case| case.size_block);
+    // Those that are 0 if they are cut to 8, 16 or 24 bits, and no less.
+    occur_on(&[Call::SealPage], &[8, 16, 24], |case| {
+        case.size_block.trailing_zeros() / 8 * 8
+    });
     occur_on(&[Call::SealPage], &[0, 1, 256, u16::MAX], |case| {
         case.page_number
     });
@@ -252,6 +256,22 @@ fn pages_with_unused_bytes_that_are_not_0_occur() {
     for (number, wanted) in wanted.iter().enumerate() {
         let found = late.iter().any(|(used, places)| wanted(*used, places));
         assert!(found, "{number}");
+    }
+}
+
+/// Pages that were sealed for size block 0, which open, and are refused for each reason that is seen in
+/// a page.
+#[test]
+fn pages_for_size_block_0_occur() {
+    let names_0 = |pair: &&(Case, Expected)| pair.0.block.starts_with(&[0; 4]);
+    let pages = cases_of(Call::OpenPage).filter(names_0);
+    let pages = pages.filter(|pair| pair.0.block.len() == PAGE_BYTES);
+    let found: Vec<u32> = pages
+        .map(|pair| pair.1.reasons.first().map_or(0, |&reason| reason))
+        .collect();
+    for reason in [0, 1, 2, 4, 11, 13, LATE_11] {
+        let number = found.iter().filter(|&&one| one == reason).count();
+        assert!(number > 3, "{reason} occurs {number} times");
     }
 }
 

@@ -8,7 +8,8 @@ use crate::options::{
 use crate::printing::Done::{self, Changed, Told};
 use crate::{help, hex, pages, rolls};
 use gordzila::{
-    raw, KeyHolder, PageKeys, Reason, Right, Roll, Walked, BLOCK_BYTES, CONTRACTORS, ROLL_BYTES,
+    raw, KeyHolder, PageKeys, Reason, Right, Roll, Walked, BLOCK_BYTES, CONTRACTORS, PAGE_BYTES,
+    ROLL_BYTES, SCRATCH_BYTES,
 };
 use std::ffi::{OsStr, OsString};
 
@@ -107,7 +108,8 @@ fn queue(words: &[OsString]) -> Answer {
     Ok(lines.collect())
 }
 
-/// The words are read before the payload, which may come from another program.
+/// The words are read before the payload, which may come from another program. Size block 0
+/// goes on to the library, as every number does, so that it refuses it in its order.
 fn seal(words: &[OsString]) -> Answer {
     let keys = [FIRST_KEY, FIRST_KEY_FILE, SECOND_KEY, SECOND_KEY_FILE];
     let others = [ROUNDS, BLOCK, PAGE_NUMBER, PAYLOAD, PAGE];
@@ -117,7 +119,8 @@ fn seal(words: &[OsString]) -> Answer {
     let (number, target) = (options.page_number()?, options.new_file(PAGE)?);
     let payload = options.payload()?;
     let keys = PageKeys { first, second };
-    let page = gordzila::seal_page(keys, rounds, block, number, &payload)?;
+    let (scratch, mut page) = (&mut [0; SCRATCH_BYTES], [0; PAGE_BYTES]);
+    raw::seal_page(keys, rounds, block, number, &payload, scratch, &mut page)?;
     pages::write_page(target, &page)?;
     Ok(format!("sealed: {}", line_on_page(block, number, &payload)))
 }

@@ -76,7 +76,7 @@ its verdict, not that one opens.
 const ISSUE: &str = "\
 Issues a grant and prints its 12 bytes. A grant for overwriting also opens its
 size block for reading. Overwriting is refused with 25 where the roll lets the
-contractor only read.
+contractor only read, and size block 0, as a blank form sends it, with 14.
 
 usage: gordzila issue OPTIONS
 
@@ -85,7 +85,7 @@ usage: gordzila issue OPTIONS
   --rounds N        10 to 11, 14 to 17 or 18 to 23, by the key's length
   --roll FILE       the roll, 600 bytes
   --contractor N    1 to 200, in standing
-  --block N         the number of the size block
+  --block N         the number of the size block, not 0
   --right R         reading or overwriting, or 1 or 2
 ";
 
@@ -94,6 +94,8 @@ Checks a grant; if it opens, prints its contractor and the right asked for. A
 grant for overwriting also opens its size block for reading; one for reading
 does not open it for overwriting. Where the roll lets the contractor only read,
 a grant for overwriting opens for reading, and overwriting is refused with 25.
+Size block 0, as a blank form sends it, is refused with 14, which says nothing
+of the grant. Grants that were issued for 0, before version 0.7, open nothing.
 
 usage: gordzila check OPTIONS
 
@@ -102,7 +104,7 @@ usage: gordzila check OPTIONS
   --rounds N        10 to 11, 14 to 17 or 18 to 23, by the key's length
   --roll FILE       the roll, 600 bytes
   --grant HEX       the grant, 12 bytes
-  --block N         the number of the size block asked for
+  --block N         the number of the size block asked for, not 0
   --right R         the right asked for: reading or overwriting, or 1 or 2
 ";
 
@@ -121,14 +123,15 @@ usage: gordzila queue OPTIONS
   --roll FILE       the roll, 600 bytes
   --grants FILE     the grants, one a line in hexadecimal digits, as `issue`
                     prints them; - stands for standard input
-  --block N         the number of the size block asked for
+  --block N         the number of the size block asked for, not 0
   --right R         the right asked for: reading or overwriting, or 1 or 2
 
 Blank lines are left out and get no number. Without grants nothing is printed.
 Exit status 0 says that each grant has its verdict, and not that one opens:
 read the lines. Where the whole queue is refused, as more than 64 grants are
-with 3, the status is 1 and there is no verdict. A line that is not the 12
-bytes of a grant, or a text of more than 65,536 bytes, cannot be used: status 2.
+with 3 and size block 0 is with 14, the status is 1 and there is no verdict. A
+line that is not the 12 bytes of a grant, or a text of more than 65,536 bytes,
+cannot be used: status 2.
 ";
 
 const SEAL: &str = "\
@@ -144,14 +147,14 @@ usage: gordzila seal OPTIONS
   --second-key HEX         another key for pages, of the same length
   --second-key-file FILE   the same, from a file of hexadecimal digits
   --rounds N               10 to 11, 14 to 17 or 18 to 23, by the keys' length
-  --block N                the number of the size block
+  --block N                the number of the size block, not 0
   --page-number N          the number of the page, 0 to 65535
   --payload FILE           the payload, as bytes; - stands for standard input
   --page FILE              the page, which is written
 
 The page is a new file: one that exists is not replaced. Where it is refused, as
-more than 492 bytes are with 12, no file is made, nor is one with status 2
-unless the message says that the change is made.
+more than 492 bytes are with 12 and size block 0 is with 14, no file is made,
+nor is one with status 2 unless the message says that the change is made.
 ";
 
 const OPEN: &str = "\
@@ -170,7 +173,9 @@ usage: gordzila open OPTIONS
   --payload FILE           the payload, which is written
 
 A page is not bound to its place: see that the numbers are those that you
-wanted. An older page with the same numbers opens too.
+wanted. An older page with the same numbers opens too. So does one that was
+sealed for size block 0, before version 0.7; no new one is. To keep what it
+holds up to date, seal that for another size block.
 The payload is a new file, which its owner alone may open: one that exists is
 not replaced. Where the page is refused, no file is made, nor is one with
 status 2 unless the message says that the change is made.

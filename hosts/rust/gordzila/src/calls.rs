@@ -1,7 +1,7 @@
 //! The calls with types that leave out what cannot be meant: blocks have 12 bytes,
-//! rolls are rolls, rights are two, and outputs are returned.
+//! rolls are rolls, rights are two, size blocks are not 0, and outputs are returned.
 
-use crate::{raw, Opened, Reason, Right, Roll};
+use crate::{raw, Opened, Reason, Right, Roll, SizeBlock};
 
 /// How many bytes a block, a grant and a subkey have.
 pub const BLOCK_BYTES: usize = 12;
@@ -74,20 +74,20 @@ pub fn run(list: &[u8], block: &[u8; BLOCK_BYTES]) -> Result<[u8; BLOCK_BYTES], 
 /// [`Reason::Contractor`], [`Reason::NotInStanding`] or [`Reason::AboveHighest`].
 ///
 /// ```
-/// use gordzila::{Opened, Reason, Right, Roll};
+/// use gordzila::{Opened, Reason, Right, Roll, SizeBlock};
 ///
-/// let (key, rounds) = ([9; 12], 10);
+/// let (key, rounds, block) = ([9; 12], 10, SizeBlock::try_from(300)?);
 /// let mut roll = Roll::empty();
 /// roll.enter(7, Right::Reading)?;
-/// let grant = gordzila::issue(&key, rounds, &roll, 7, 300, Right::Reading)?;
-/// let refused = gordzila::issue(&key, rounds, &roll, 7, 300, Right::Overwriting);
+/// let grant = gordzila::issue(&key, rounds, &roll, 7, block, Right::Reading)?;
+/// let refused = gordzila::issue(&key, rounds, &roll, 7, block, Right::Overwriting);
 /// assert_eq!(refused, Err(Reason::AboveHighest));
 ///
-/// let opened = gordzila::check(&key, rounds, &roll, &grant, 300, Right::Reading)?;
+/// let opened = gordzila::check(&key, rounds, &roll, &grant, block, Right::Reading)?;
 /// assert_eq!(opened, Opened { contractor: 7, right: Right::Reading });
 ///
 /// roll.withdraw(7)?;
-/// let refused = gordzila::check(&key, rounds, &roll, &grant, 300, Right::Reading);
+/// let refused = gordzila::check(&key, rounds, &roll, &grant, block, Right::Reading);
 /// assert_eq!(refused, Err(Reason::NotInStanding));
 /// # Ok::<(), Reason>(())
 /// ```
@@ -96,11 +96,11 @@ pub fn issue(
     rounds: u32,
     roll: &Roll,
     contractor: u32,
-    size_block: u32,
+    size_block: SizeBlock,
     right: Right,
 ) -> Result<[u8; BLOCK_BYTES], Reason> {
-    let (roll, right) = (roll.bytes(), right.number());
-    written(|out| raw::issue(key, rounds, roll, contractor, size_block, right, out))
+    let (roll, block, right) = (roll.bytes(), size_block.number(), right.number());
+    written(|out| raw::issue(key, rounds, roll, contractor, block, right, out))
 }
 
 /// Checks a grant for one size block and one right. The grant may have any length: it
@@ -113,19 +113,22 @@ pub fn issue(
 /// asked for. Overwriting asked of a reading grant is [`Reason::OtherRight`]; asked of an
 /// overwriting grant whose contractor may only read, it is [`Reason::AboveHighest`].
 ///
-/// ```
-/// use gordzila::{check, issue, Opened, Reason, Right, Roll};
+/// A grant that was issued for size block 0, before version 0.7, is one for another size
+/// block than any that can be asked for here.
 ///
-/// let (key, rounds) = (&[9; 12], 10);
+/// ```
+/// use gordzila::{check, issue, Opened, Reason, Right, Roll, SizeBlock};
+///
+/// let (key, rounds, block) = (&[9; 12], 10, SizeBlock::try_from(300)?);
 /// let mut roll = Roll::empty();
 /// roll.enter(7, Right::Overwriting)?;
 ///
-/// let overwriting = issue(key, rounds, &roll, 7, 300, Right::Overwriting)?;
-/// let opened = check(key, rounds, &roll, &overwriting, 300, Right::Reading)?;
+/// let overwriting = issue(key, rounds, &roll, 7, block, Right::Overwriting)?;
+/// let opened = check(key, rounds, &roll, &overwriting, block, Right::Reading)?;
 /// assert_eq!(opened, Opened { contractor: 7, right: Right::Reading });
 ///
-/// let reading = issue(key, rounds, &roll, 7, 300, Right::Reading)?;
-/// let refused = check(key, rounds, &roll, &reading, 300, Right::Overwriting);
+/// let reading = issue(key, rounds, &roll, 7, block, Right::Reading)?;
+/// let refused = check(key, rounds, &roll, &reading, block, Right::Overwriting);
 /// assert_eq!(refused, Err(Reason::OtherRight));
 /// # Ok::<(), Reason>(())
 /// ```
@@ -134,10 +137,11 @@ pub fn check(
     rounds: u32,
     roll: &Roll,
     grant: &[u8],
-    size_block: u32,
+    size_block: SizeBlock,
     right: Right,
 ) -> Result<Opened, Reason> {
-    raw::check(key, rounds, roll.bytes(), grant, size_block, right.number())
+    let (block, right) = (size_block.number(), right.number());
+    raw::check(key, rounds, roll.bytes(), grant, block, right)
 }
 
 /// Checks a queue of 0 to 64 grants ([`QUEUE_MOST_GRANTS`]) for one size block and one
@@ -151,9 +155,9 @@ pub fn check(
 /// hands that grant to [`check`].
 ///
 /// ```
-/// use gordzila::{check_queue, issue, Reason, Right, Roll};
+/// use gordzila::{check_queue, issue, Reason, Right, Roll, SizeBlock};
 ///
-/// let (key, rounds, block) = (&[9; 12], 10, 300);
+/// let (key, rounds, block) = (&[9; 12], 10, SizeBlock::try_from(300)?);
 /// let mut roll = Roll::empty();
 /// roll.enter(7, Right::Overwriting)?;
 /// let overwriting = issue(key, rounds, &roll, 7, block, Right::Overwriting)?;
@@ -186,13 +190,14 @@ pub fn check_queue(
     rounds: u32,
     roll: &Roll,
     grants: &[[u8; BLOCK_BYTES]],
-    size_block: u32,
+    size_block: SizeBlock,
     right: Right,
 ) -> Result<Vec<Result<(), Reason>>, Reason> {
     // A byte that the library did not write would open nothing.
     let mut answers = vec![u8::MAX; grants.len()];
-    let (roll, grants, right) = (roll.bytes(), grants.concat(), right.number());
-    raw::check_queue(key, rounds, roll, &grants, size_block, right, &mut answers)?;
+    let (roll, grants) = (roll.bytes(), grants.concat());
+    let (block, right) = (size_block.number(), right.number());
+    raw::check_queue(key, rounds, roll, &grants, block, right, &mut answers)?;
     Ok(answers.into_iter().map(verdict).collect())
 }
 

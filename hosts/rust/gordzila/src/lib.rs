@@ -8,9 +8,9 @@
 //! A day in the life of a grant:
 //!
 //! ```
-//! use gordzila::{check, issue, Opened, Reason, Right, Roll};
+//! use gordzila::{check, issue, Opened, Reason, Right, Roll, SizeBlock};
 //!
-//! let (key, rounds, size_block) = (&[42; 24], 18, 300);
+//! let (key, rounds, size_block) = (&[42; 24], 18, SizeBlock::try_from(300)?);
 //! let mut roll = Roll::empty();
 //! roll.enter(7, Right::Overwriting)?;
 //! let grant = issue(key, rounds, &roll, 7, size_block, Right::Overwriting)?;
@@ -44,6 +44,9 @@
 //! A plotter that starts the day with a pile of cached grants for one size block hands
 //! them over to [`check_queue`], up to 64 in one call.
 //!
+//! A [`SizeBlock`] is not 0: size block 0 was for practice, and a form that was left blank
+//! sends it. Grants that were issued for it open nothing any more.
+//!
 //! What a size block has can be kept in pages of 512 bytes: [`seal_page`] enciphers up to
 //! 492 bytes and adds a check, and [`open_page`] gives them again, or refuses.
 //!
@@ -56,6 +59,7 @@
 #![deny(unsafe_code)]
 #![warn(missing_docs, clippy::undocumented_unsafe_blocks)]
 
+mod blocks;
 mod calls;
 mod grants;
 mod holder;
@@ -68,6 +72,7 @@ mod roll;
 mod sys;
 mod walks;
 
+pub use blocks::SizeBlock;
 pub use calls::{
     check, check_queue, decipher, encipher, issue, prepare_deciphering, prepare_enciphering, run,
     stage, subkey, BLOCK_BYTES, QUEUE_MOST_GRANTS, STAGE_BYTES,

@@ -1,7 +1,7 @@
 //! Sealed pages: up to 492 bytes of a size block, enciphered and with a check.
 
 use crate::calls::written;
-use crate::{raw, Reason};
+use crate::{raw, Reason, SizeBlock};
 use std::fmt;
 
 /// How many bytes a page has.
@@ -41,7 +41,7 @@ impl fmt::Debug for PageKeys<'_> {
 /// The numbers that a page was sealed with, which stand in it for all to read.
 #[derive(Clone, Copy, Debug, PartialEq, Eq)]
 pub struct PageHeader {
-    /// The number of the size block.
+    /// The number of the size block. It is 0 in some pages from before version 0.7.
     pub size_block: u32,
     /// The number of the page.
     pub page_number: u16,
@@ -52,7 +52,8 @@ pub struct PageHeader {
 /// What a page was sealed with. `{:?}` does not show the payload.
 #[derive(Clone, PartialEq, Eq)]
 pub struct OpenedPage {
-    /// The number of the size block.
+    /// The number of the size block. It is 0 in some pages from before version 0.7, and
+    /// [`SizeBlock::new`] gives none for it: no new page is sealed for 0.
     pub size_block: u32,
     /// The number of the page.
     pub page_number: u16,
@@ -81,28 +82,29 @@ impl fmt::Debug for OpenedPage {
 /// stand in it for all to read.
 ///
 /// ```
-/// use gordzila::{open_page, seal_page, PageKeys, Reason};
+/// use gordzila::{open_page, seal_page, PageKeys, Reason, SizeBlock};
 ///
 /// let (keys, rounds) = (PageKeys { first: &[1; 12], second: &[2; 12] }, 10);
-/// let page = seal_page(keys, rounds, 300, 4, b"front panel")?;
+/// let block = SizeBlock::try_from(300)?;
+/// let page = seal_page(keys, rounds, block, 4, b"front panel")?;
 /// assert_eq!(page[..12], [0, 0, 1, 44, 0, 4, 0, 11, 0, 0, 0, 0]);
 /// assert_eq!(open_page(keys, rounds, &page)?.payload, b"front panel");
 ///
-/// let too_long = seal_page(keys, rounds, 300, 4, &[0; 493]);
+/// let too_long = seal_page(keys, rounds, block, 4, &[0; 493]);
 /// assert_eq!(too_long, Err(Reason::PayloadTooLong));
 /// let equal = PageKeys { first: &[1; 12], second: &[1; 12] };
-/// assert_eq!(seal_page(equal, rounds, 300, 4, b""), Err(Reason::KeyLength));
+/// assert_eq!(seal_page(equal, rounds, block, 4, b""), Err(Reason::KeyLength));
 /// # Ok::<(), Reason>(())
 /// ```
 pub fn seal_page(
     keys: PageKeys<'_>,
     rounds: u32,
-    size_block: u32,
+    size_block: SizeBlock,
     page_number: u16,
     payload: &[u8],
 ) -> Result<[u8; PAGE_BYTES], Reason> {
-    let scratch = &mut [0; SCRATCH_BYTES];
-    written(|out| raw::seal_page(keys, rounds, size_block, page_number, payload, scratch, out))
+    let (block, scratch) = (size_block.number(), &mut [0; SCRATCH_BYTES]);
+    written(|out| raw::seal_page(keys, rounds, block, page_number, payload, scratch, out))
 }
 
 /// Opens a page, which may have any length: it comes from outside. Refuses with
@@ -113,14 +115,18 @@ pub fn seal_page(
 /// that you wanted. An older page with the same numbers opens too, and that pages are
 /// missing, or stand in another order, is not noticed.
 ///
+/// A page that was sealed for size block 0, before version 0.7, opens, with 0 as its size
+/// block. To keep what it holds up to date, seal that for another size block.
+///
 /// ```
-/// use gordzila::{open_page, seal_page, OpenedPage, PageKeys, Reason};
+/// use gordzila::{open_page, seal_page, PageKeys, Reason, SizeBlock};
 ///
 /// let (keys, rounds) = (PageKeys { first: &[1; 24], second: &[2; 24] }, 18);
-/// let mut page = seal_page(keys, rounds, 300, 4, b"front panel")?;
+/// let (block, number) = (SizeBlock::try_from(300)?, 4);
+/// let mut page = seal_page(keys, rounds, block, number, b"front panel")?;
 ///
 /// let opened = open_page(keys, rounds, &page)?;
-/// let wanted = (300, 4);
+/// let wanted = (block.number(), number);
 /// assert_eq!((opened.size_block, opened.page_number), wanted);
 /// assert_eq!(opened.payload, b"front panel");
 ///

@@ -46,8 +46,11 @@ const WALKED: u32 = 1000;
 const PAGE_OPENS: u64 = 1 << 63;
 
 /// Checks a grant for one size block and one right, which is the one in the answer. A
-/// grant for overwriting opens for reading too. Order: 1, 2, 3 (grant or roll), 7, 8, 9,
-/// 10, 20, 23, 25.
+/// grant for overwriting opens for reading too. Order: 1, 2, 3 (grant or roll), 7, 14, 8,
+/// 9, 10, 20, 23, 25.
+///
+/// 14 is about the size block asked for, whatever the grant is. A grant that was issued for
+/// size block 0, before version 0.7, opens nothing: asked for another it is 9.
 pub fn check(
     key: &[u8],
     rounds: u32,
@@ -61,7 +64,8 @@ pub fn check(
 
 /// Checks a queue of 0 to 64 grants, 12 bytes each, for one size block and one right: a
 /// byte for each grant to `answers`, 0 if it opens, else the number with which [`check`]
-/// refuses it. Order: 1, 2, 3 (roll or grants), 4, 7.
+/// refuses it. Order: 1, 2, 3 (roll or grants), 4, 7, 14. No byte is 14: that refuses the
+/// whole call.
 ///
 /// `Ok` does not say that a grant opens, only that each has its byte. Take every byte but 0
 /// for a refusal. `answers` keeps its bytes where the whole call is refused, so that those
@@ -115,7 +119,7 @@ pub fn withdraw(roll: &mut [u8], contractor: u32) -> Result<(), Reason> {
 }
 
 /// Issues a grant: 12 bytes to `out`. One for overwriting opens for reading too. Order: 1,
-/// 2, 3 (roll), 4, 6, 7, 20, 25.
+/// 2, 3 (roll), 4, 6, 7, 14, 20, 25.
 pub fn issue(
     key: &[u8],
     rounds: u32,
@@ -131,7 +135,7 @@ pub fn issue(
 }
 
 /// Seals a page: 512 bytes to `out`. Order: 1 (also keys that are equal or of unequal
-/// lengths), 2, 4 (`scratch` under 576 bytes or `out` under 512), 12.
+/// lengths), 2, 4 (`scratch` under 576 bytes or `out` under 512), 14, 12.
 ///
 /// The subkey lists are in `scratch` while the call works. After it the first 576 bytes are
 /// zero, and the others as they were; where it refuses, all are as they were:
@@ -180,11 +184,13 @@ pub fn seal_page(
 /// these refuse. After every other refusal all are as they were. `out` is as it was after
 /// every refusal.
 ///
-/// ```
-/// use gordzila::{raw, PageHeader, PageKeys, Reason};
+/// A page that was sealed for size block 0, before version 0.7, is not refused for that.
 ///
-/// let keys = PageKeys { first: &[1; 12], second: &[2; 12] };
-/// let mut page = gordzila::seal_page(keys, 10, 300, 4, b"front panel")?;
+/// ```
+/// use gordzila::{raw, PageHeader, PageKeys, Reason, SizeBlock};
+///
+/// let (keys, block) = (PageKeys { first: &[1; 12], second: &[2; 12] }, SizeBlock::try_from(300)?);
+/// let mut page = gordzila::seal_page(keys, 10, block, 4, b"front panel")?;
 /// let (mut scratch, mut out) = ([0xee; 576], [0xee; 492]);
 /// let header = raw::open_page(keys, 10, &page, &mut scratch, &mut out)?;
 /// assert_eq!(header, PageHeader { size_block: 300, page_number: 4, used: 11 });
@@ -359,7 +365,7 @@ mod tests {
 
     #[test]
     fn a_number_of_no_reason_is_not_taken_for_anything() {
-        for number in [14, 26, 1001] {
+        for number in [15, 26, 1001] {
             assert!(std::panic::catch_unwind(|| done(number)).is_err());
         }
     }
@@ -383,7 +389,7 @@ mod tests {
 
     #[test]
     fn an_answer_that_the_header_does_not_have_opens_nothing() {
-        for answer in [0, 14, 26, 999, 1000, 1201, 2000, 2201, 3001, u32::MAX] {
+        for answer in [0, 15, 26, 999, 1000, 1201, 2000, 2201, 3001, u32::MAX] {
             assert!(std::panic::catch_unwind(|| opened(answer)).is_err());
         }
     }
@@ -409,7 +415,7 @@ mod tests {
 
     #[test]
     fn an_answer_that_the_header_does_not_have_is_no_walk() {
-        for answer in [0, 14, 26, 999, 1013, 2000, 2012, 3001, u32::MAX] {
+        for answer in [0, 15, 26, 999, 1013, 2000, 2012, 3001, u32::MAX] {
             assert!(std::panic::catch_unwind(|| walked(answer)).is_err());
         }
     }
@@ -442,7 +448,7 @@ mod tests {
     fn an_answer_that_the_header_does_not_have_is_no_page() {
         for answer in [
             0,
-            14,
+            15,
             26,
             1001,
             (1 << 32) + 13,

@@ -10,13 +10,15 @@ use std::fmt;
 /// Later versions may have more reasons: a `match` with an arm for others, `_`, stays whole.
 ///
 /// ```
-/// use gordzila::{PageKeys, Reason};
+/// use gordzila::{PageKeys, Reason, SizeBlock};
 ///
 /// let keys = PageKeys { first: &[1; 12], second: &[2; 12] };
-/// let reason = gordzila::seal_page(keys, 10, 300, 4, &[0; 493]).unwrap_err();
+/// let block = SizeBlock::try_from(300)?;
+/// let reason = gordzila::seal_page(keys, 10, block, 4, &[0; 493]).unwrap_err();
 /// assert_eq!(reason, Reason::PayloadTooLong);
 /// assert_eq!(reason.number(), 12);
 /// assert_eq!(reason.to_string(), "payload over 492 bytes");
+/// # Ok::<(), Reason>(())
 /// ```
 #[derive(Clone, Copy, Debug, PartialEq, Eq)]
 pub enum Reason {
@@ -53,6 +55,9 @@ pub enum Reason {
     /// 13: the page's check differs: it was changed, or sealed with another second key or
     /// another round count.
     CheckDiffers = 13,
+    /// 14: size block number 0 asked for. Only the calls of [`raw`](crate::raw) can give it,
+    /// and [`SizeBlock::try_from`](crate::SizeBlock), where a number comes in.
+    BlockZero = 14,
     /// 20: contractor not in standing.
     NotInStanding = 20,
     /// 21: entering someone in standing.
@@ -61,8 +66,8 @@ pub enum Reason {
     CountSpent = 22,
     /// 23: the grant's count differs from the roll's.
     OtherCount = 23,
-    /// 24: holder not 26 bytes, or not whole: a wrong key length, a stage number that is
-    /// not below it, or bytes past it. Only the calls of [`raw`](crate::raw) and
+    /// 24: holder not 26 bytes, or not whole: a wrong key length, a stage number not below
+    /// it, or bytes past it that are not zero. Only the calls of [`raw`](crate::raw) and
     /// [`KeyHolder::from_bytes`](crate::KeyHolder::from_bytes) can give it.
     BrokenHolder = 24,
     /// 25: right asked for above the contractor's highest: overwriting, of a contractor who
@@ -72,11 +77,11 @@ pub enum Reason {
 
 /// The words of [`Reason::BrokenHolder`].
 const BROKEN_HOLDER: &str = "holder not 26 bytes, or not whole: a wrong key length, \
-                             a stage number that is not below it, or bytes past it";
+                             a stage number not below it, or bytes past it that are not zero";
 
 impl Reason {
     /// Every reason, in the order of the numbers.
-    pub const ALL: [Reason; 19] = [
+    pub const ALL: [Reason; 20] = [
         Reason::KeyLength,
         Reason::RoundCount,
         Reason::InputLength,
@@ -90,6 +95,7 @@ impl Reason {
         Reason::NotAPage,
         Reason::PayloadTooLong,
         Reason::CheckDiffers,
+        Reason::BlockZero,
         Reason::NotInStanding,
         Reason::InStanding,
         Reason::CountSpent,
@@ -147,6 +153,7 @@ impl Reason {
             }
             Reason::PayloadTooLong => "payload over 492 bytes",
             Reason::CheckDiffers => "the page's check differs",
+            Reason::BlockZero => "size block number 0 asked for",
             Reason::NotInStanding => "contractor not in standing",
             Reason::InStanding => "entering someone in standing",
             Reason::CountSpent => "entering at count 65,534 or 65,535",
@@ -178,15 +185,15 @@ mod tests {
     }
 
     #[test]
-    fn the_numbers_are_1_to_13_and_20_to_25() {
+    fn the_numbers_are_1_to_14_and_20_to_25() {
         let numbers: Vec<u32> = Reason::ALL.into_iter().map(Reason::number).collect();
-        let expected: Vec<u32> = (1..=13).chain(20..=25).collect();
+        let expected: Vec<u32> = (1..=14).chain(20..=25).collect();
         assert_eq!(numbers, expected);
     }
 
     #[test]
     fn no_other_number_is_a_reason() {
-        for number in [0, 14, 19, 26, 257, 1001, 2200, u32::MAX] {
+        for number in [0, 15, 19, 26, 257, 1001, 2200, u32::MAX] {
             assert_eq!(Reason::from_number(number), None, "{number}");
         }
     }

@@ -155,9 +155,9 @@ impl Roll {
     /// again. To end these, withdraw the contractor and enter them again.
     ///
     /// ```
-    /// use gordzila::{check, issue, Reason, Right, Roll};
+    /// use gordzila::{check, issue, Reason, Right, Roll, SizeBlock};
     ///
-    /// let (key, rounds, block) = (&[9; 12], 10, 300);
+    /// let (key, rounds, block) = (&[9; 12], 10, SizeBlock::try_from(300)?);
     /// let mut roll = Roll::empty();
     /// roll.enter(7, Right::Overwriting)?;
     /// let grant = issue(key, rounds, &roll, 7, block, Right::Overwriting)?;

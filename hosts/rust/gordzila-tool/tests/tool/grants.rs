@@ -81,41 +81,43 @@ fn a_right_is_a_word_or_a_number() {
     let room = Room::new("rights");
     let roll = room.roll(&[(7, 1)]);
     let issue = |right: &str| {
-        let rest = options(&format!("--block 0 --contractor 7 --right {right}"));
+        let rest = options(&format!("--block 1 --contractor 7 --right {right}"));
         on_roll("issue", &roll, &rest).done()
     };
     assert_eq!(issue("reading"), issue("1"));
     assert_eq!(issue("overwriting"), issue("2"));
-    let rest = options(&format!("--block 0 --right 1 --grant {}", issue("1")));
+    let rest = options(&format!("--block 1 --right 1 --grant {}", issue("1")));
     let opens = on_roll("check", &roll, &rest).done();
     assert_eq!(opens, "opens: contractor 7, reading\n");
 }
 
 #[test]
-fn issuing_refuses_with_1_2_6_7_20_25() {
+fn issuing_refuses_with_1_2_6_7_14_20_25() {
     let room = Room::new("issue-refusals");
     let roll = room.roll_with(&[(7, 1, 1), (8, 2, 1), (9, 65_535, 2)]);
-    let number = |key: &str, rounds: u32, contractor: u32, right: &str| {
-        let rest = format!(
-            "--key {key} --rounds {rounds} --contractor {contractor} --block 1 --right {right}"
-        );
+    let number = |key: &str, rounds: u32, contractor: u32, right: &str, block: u32| {
+        let asked = format!("--contractor {contractor} --block {block} --right {right}");
+        let rest = format!("--key {key} --rounds {rounds} {asked}");
         on_roll("issue", &roll, &rest).refused()
     };
-    assert_eq!(number("00", 10, 7, "1"), 1);
-    assert_eq!(number(KEY, 12, 7, "1"), 2);
-    assert_eq!(number(KEY, 10, 0, "1"), 6);
-    assert_eq!(number(KEY, 10, 201, "1"), 6);
-    assert_eq!(number(KEY, 10, 65_543, "1"), 6);
-    assert_eq!(number(KEY, 10, 7, "0"), 7);
-    assert_eq!(number(KEY, 10, 7, "257"), 7);
-    assert_eq!(number(KEY, 10, 8, "1"), 20);
-    assert_eq!(number(KEY, 10, 9, "1"), 20);
-    assert_eq!(number(KEY, 10, 8, "2"), 20);
-    assert_eq!(number(KEY, 10, 7, "2"), 25);
+    for block in [1, 0] {
+        assert_eq!(number("00", 10, 7, "1", block), 1);
+        assert_eq!(number(KEY, 12, 7, "1", block), 2);
+        assert_eq!(number(KEY, 10, 0, "1", block), 6);
+        assert_eq!(number(KEY, 10, 201, "1", block), 6);
+        assert_eq!(number(KEY, 10, 65_543, "1", block), 6);
+        assert_eq!(number(KEY, 10, 7, "0", block), 7);
+        assert_eq!(number(KEY, 10, 7, "257", block), 7);
+    }
+    for (contractor, right, expected) in [(8, "1", 20), (9, "1", 20), (8, "2", 20), (7, "2", 25)] {
+        assert_eq!(number(KEY, 10, contractor, right, 0), 14);
+        assert_eq!(number(KEY, 10, contractor, right, 1), expected);
+    }
+    assert_eq!(number(KEY, 10, 7, "1", 0), 14);
 }
 
 #[test]
-fn checking_refuses_with_1_2_3_7_8_9_10_20_23_25() {
+fn checking_refuses_with_1_2_3_7_14_8_9_10_20_23_25() {
     let room = Room::new("check-refusals");
     let roll = room.roll(&[(7, 1)]);
     let (grant, reading) = (issued(&roll, "2"), issued(&roll, "1"));
@@ -125,11 +127,17 @@ fn checking_refuses_with_1_2_3_7_8_9_10_20_23_25() {
         );
         on_roll("check", &roll, &rest).refused()
     };
-    assert_eq!(number("00", 10, &grant, 300, 2), 1);
-    assert_eq!(number(KEY, 18, &grant, 300, 2), 2);
-    assert_eq!(number(KEY, 10, "00", 300, 2), 3);
-    assert_eq!(number(KEY, 10, &format!("{}00", grant.trim()), 300, 2), 3);
-    assert_eq!(number(KEY, 10, &grant, 300, 3), 7);
+    for block in [300, 0] {
+        assert_eq!(number("00", 10, &grant, block, 2), 1);
+        assert_eq!(number(KEY, 18, &grant, block, 2), 2);
+        assert_eq!(number(KEY, 10, "00", block, 2), 3);
+        let longer = format!("{}00", grant.trim());
+        assert_eq!(number(KEY, 10, &longer, block, 2), 3);
+        assert_eq!(number(KEY, 10, &grant, block, 3), 7);
+    }
+    for grant in [&grant, &reading, KEY] {
+        assert_eq!(number(KEY, 10, grant, 0, 2), 14);
+    }
     assert_eq!(number(KEY, 11, &grant, 300, 2), 8);
     assert_eq!(number(KEY, 10, &grant, 301, 2), 9);
     assert_eq!(number(KEY, 10, &reading, 300, 2), 10);
@@ -137,6 +145,7 @@ fn checking_refuses_with_1_2_3_7_8_9_10_20_23_25() {
     assert_eq!(number(KEY, 10, &grant, 300, 2), 20);
     room.roll_with(&[(7, 3, 1)]);
     assert_eq!(number(KEY, 10, &grant, 300, 2), 23);
+    assert_eq!(number(KEY, 10, &grant, 0, 2), 14);
     for highest in [0, 1, 3, 255] {
         room.roll_with(&[(7, 1, highest)]);
         assert_eq!(number(KEY, 10, &reading, 300, 2), 10);

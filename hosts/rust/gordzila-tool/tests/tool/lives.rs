@@ -62,7 +62,7 @@ impl<'a> Life<'a> {
         lines.extend([self.change("enter", right), self.issue(right)]);
         let a = grant_in(&lines[3]);
         lines.push(self.check(&a, right));
-        lines.push(self.check_for(&a, self.block.wrapping_add(1), right));
+        lines.push(self.check_for(&a, self.block + 1, right));
         lines.extend([self.check(&a, 3 - right), self.issue(3 - right)]);
         lines.push(self.change("right", 1));
         lines.extend([self.check(&a, 2), self.check(&a, 1), self.issue(2)]);

@@ -1,5 +1,6 @@
 //! Tests of the tool as others use it: by its words, files, outputs and exit status.
 
+mod block_zero;
 mod cipher;
 mod converting;
 mod grants;

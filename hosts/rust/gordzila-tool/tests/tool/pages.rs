@@ -1,7 +1,7 @@
 //! `seal` and `open`.
 
-use crate::running::{run, run_fed, run_unheard, Room, Run, KEY, OTHER_KEY, PAGE_KEYS};
-use gordzila::{encipher, open_page, seal_page};
+use crate::running::{run, run_fed, run_unheard, sealed, Room, Run, KEY, OTHER_KEY, PAGE_KEYS};
+use gordzila::{encipher, open_page, seal_page, SizeBlock};
 use std::fs;
 use std::os::unix::fs::{symlink, PermissionsExt};
 use std::path::Path;
@@ -43,10 +43,9 @@ fn a_payload_is_sealed_in_a_file_and_opened_from_it() {
         let payload = room.file("payload", &bytes(length));
         let (page, again) = (room.path("page"), room.path("again"));
         let told = format!("size block 300, page 4, {length} bytes\n");
-        let sealed = run(&sealing(named(&payload), &page)).done();
-        assert_eq!(sealed, format!("sealed: {told}"));
-        let expected = seal_page(PAGE_KEYS, 10, 300, 4, &bytes(length)).unwrap();
-        assert_eq!(fs::read(&page).unwrap(), expected);
+        let printed = run(&sealing(named(&payload), &page)).done();
+        assert_eq!(printed, format!("sealed: {told}"));
+        assert_eq!(fs::read(&page).unwrap(), sealed(&bytes(length)));
         let opened = run(&opening(named(&page), &again)).done();
         assert_eq!(opened, format!("opened: {told}"));
         assert_eq!(fs::read(&again).unwrap(), bytes(length));
@@ -70,8 +69,9 @@ fn payload_and_page_may_come_from_standard_input() {
 #[test]
 fn a_page_says_which_it_is() {
     let room = Room::new("page-says");
-    for (block, number, name) in [(0, 0, "a"), (300, 5, "b"), (u32::MAX, u16::MAX, "c")] {
-        let page = seal_page(PAGE_KEYS, 10, block, number, b"front panel").unwrap();
+    for (block, number, name) in [(1, 0, "a"), (300, 5, "b"), (u32::MAX, u16::MAX, "c")] {
+        let size_block = SizeBlock::new(block).unwrap();
+        let page = seal_page(PAGE_KEYS, 10, size_block, number, b"front panel").unwrap();
         let page = room.file("page", &page);
         let opened = run(&opening(named(&page), &room.path(name))).done();
         let expected = format!("opened: size block {block}, page {number}, 11 bytes\n");
@@ -80,10 +80,10 @@ fn a_page_says_which_it_is() {
     }
 }
 
-/// Seals a payload of some bytes under any two keys.
-fn sealed_under(room: &Room, keys: [&str; 2], rounds: u32, length: usize) -> Run {
+/// Seals a payload of some bytes under any two keys, for a size block.
+fn sealed_under(room: &Room, keys: [&str; 2], rounds: u32, length: usize, block: u32) -> Run {
     let payload = room.file("payload", &bytes(length));
-    let rest = format!("--rounds {rounds} --block 1 --page-number 2");
+    let rest = format!("--rounds {rounds} --block {block} --page-number 2");
     let files = format!("--payload {} --page", named(&payload));
     let page = room.path("page");
     run(&words(
@@ -94,23 +94,26 @@ fn sealed_under(room: &Room, keys: [&str; 2], rounds: u32, length: usize) -> Run
 }
 
 #[test]
-fn sealing_refuses_with_1_2_12_and_makes_no_file() {
+fn sealing_refuses_with_1_2_14_12_and_makes_no_file() {
     let room = Room::new("seal-refusals");
     let longer = &format!("{KEY}000000000000");
-    let number = |keys, rounds, length| sealed_under(&room, keys, rounds, length).refused();
-    for length in [0, 492, 493] {
-        assert_eq!(number(["00", OTHER_KEY], 10, length), 1);
-        assert_eq!(number([KEY, "00"], 10, length), 1);
-        assert_eq!(number([KEY, KEY], 10, length), 1);
-        assert_eq!(number([KEY, longer], 10, length), 1);
-        assert_eq!(number([longer, KEY], 14, length), 1);
-        assert_eq!(number(["00", "00"], 12, length), 1);
-        assert_eq!(number([KEY, OTHER_KEY], 9, length), 2);
-        assert_eq!(number([KEY, OTHER_KEY], 12, length), 2);
-        assert_eq!(number([KEY, KEY], 12, length), 1);
+    let number =
+        |keys, rounds, length, block| sealed_under(&room, keys, rounds, length, block).refused();
+    for (length, block) in [(0, 1), (492, 1), (493, 1), (0, 0), (493, 0)] {
+        assert_eq!(number(["00", OTHER_KEY], 10, length, block), 1);
+        assert_eq!(number([KEY, "00"], 10, length, block), 1);
+        assert_eq!(number([KEY, KEY], 10, length, block), 1);
+        assert_eq!(number([KEY, longer], 10, length, block), 1);
+        assert_eq!(number([longer, KEY], 14, length, block), 1);
+        assert_eq!(number(["00", "00"], 12, length, block), 1);
+        assert_eq!(number([KEY, OTHER_KEY], 9, length, block), 2);
+        assert_eq!(number([KEY, OTHER_KEY], 12, length, block), 2);
+        assert_eq!(number([KEY, KEY], 12, length, block), 1);
+        assert_eq!(number([KEY, OTHER_KEY], 10, length, 0), 14);
     }
     for length in [493, 512, 5000] {
-        assert_eq!(number([KEY, OTHER_KEY], 10, length), 12);
+        assert_eq!(number([KEY, OTHER_KEY], 10, length, 1), 12);
+        assert_eq!(number([KEY, OTHER_KEY], 10, length, 0), 14);
     }
     assert_eq!(room.names(), ["payload"]);
     // What has no end is not read to it.
@@ -135,7 +138,7 @@ fn with_count(mut page: [u8; 512], used: u8) -> [u8; 512] {
 #[test]
 fn opening_refuses_with_1_2_11_13_and_makes_no_file() {
     let room = Room::new("open-refusals");
-    let sealed = seal_page(PAGE_KEYS, 10, 300, 4, &[9; 492]).unwrap();
+    let sealed = sealed(&[9; 492]);
     let number = |keys, rounds: u32, page: &[u8]| {
         let page = room.file("page", page);
         let rest = format!("--rounds {rounds} --page {}", named(&page));
@@ -177,7 +180,7 @@ fn opening_refuses_with_1_2_11_13_and_makes_no_file() {
 /// its own count.
 #[test]
 fn a_count_with_its_check_is_what_was_sealed() {
-    let sealed = seal_page(PAGE_KEYS, 10, 300, 4, &[9; 200]).unwrap();
+    let sealed = sealed(&[9; 200]);
     assert_eq!(with_count(sealed, 200), sealed);
     let opened = open_page(PAGE_KEYS, 10, &with_count(sealed, 200));
     assert_eq!(opened.unwrap().payload, [9; 200]);
@@ -190,8 +193,7 @@ fn a_file_is_not_replaced() {
     let old = room.file("old", b"old");
     let link = room.path("link");
     symlink("nowhere", &link).unwrap();
-    let page = seal_page(PAGE_KEYS, 10, 300, 4, b"front panel").unwrap();
-    let page = room.file("page", &page);
+    let page = room.file("page", &sealed(b"front panel"));
     for target in [&old, &link] {
         run(&sealing(named(&payload), target)).stopped("exists, and is not replaced");
         run(&opening(named(&page), target)).stopped("exists, and is not replaced");
@@ -207,8 +209,8 @@ fn a_file_is_not_replaced() {
 #[test]
 fn a_payload_that_was_opened_is_the_owners() {
     let room = Room::new("page-mode");
-    let page = seal_page(PAGE_KEYS, 10, 300, 4, b"front panel").unwrap();
-    let (page, payload) = (room.file("page", &page), room.path("payload"));
+    let page = room.file("page", &sealed(b"front panel"));
+    let payload = room.path("payload");
     run(&opening(named(&page), &payload)).done();
     let mode = fs::metadata(&payload).unwrap().permissions().mode();
     assert_eq!(mode & 0o077, 0);
@@ -225,8 +227,7 @@ fn files_that_cannot_be_used_are_named() {
     let nowhere = room.path("none/new");
     let named = |option: &str| format!("{option}: {}: ", nowhere.display());
     run_fed(&sealing("-", &nowhere), b"").stopped(&named("--page"));
-    let page = seal_page(PAGE_KEYS, 10, 300, 4, b"").unwrap();
-    run_fed(&opening("-", &nowhere), &page).stopped(&named("--payload"));
+    run_fed(&opening("-", &nowhere), &sealed(b"")).stopped(&named("--payload"));
     assert!(room.names().is_empty());
 }
 
@@ -253,8 +254,7 @@ fn a_file_that_cannot_be_told_is_made() {
 #[test]
 fn the_keys_may_stand_in_files() {
     let room = Room::new("page-key-files");
-    let page = seal_page(PAGE_KEYS, 10, 300, 4, b"front panel").unwrap();
-    let page = room.file("page", &page);
+    let page = room.file("page", &sealed(b"front panel"));
     let first = room.file("first", format!("{KEY}\n").as_bytes());
     let second = room.file("second", OTHER_KEY.to_uppercase().as_bytes());
     let wrong = room.file("wrong", format!("{KEY} {KEY}").as_bytes());

@@ -123,6 +123,9 @@ fn an_empty_queue_is_done_and_prints_nothing() {
         assert_eq!(queued_from_input(&roll, text, "2").done(), "");
         // What is wrong is refused all the same.
         assert_eq!(queued_from_input(&roll, text, "3").refused(), 7);
+        let asked = format!("--key {KEY} --rounds 10 --block 0 --right 2");
+        let options = format!("{asked} --grants {}", grants.to_str().unwrap());
+        assert_eq!(on_roll("queue", &roll, &options).refused(), 14);
     }
 }
 
@@ -140,26 +143,29 @@ fn a_queue_has_64_grants_at_most() {
 }
 
 #[test]
-fn the_whole_queue_is_refused_with_1_2_3_7() {
+fn the_whole_queue_is_refused_with_1_2_3_7_14() {
     let room = Room::new("queue-refusals");
     let roll = room.roll(&[(7, 1)]);
-    let number = |key: &str, rounds: u32, n: usize, right: u32| {
+    let number = |key: &str, rounds: u32, n: usize, right: u32, block: u32| {
         let grants = room.file("grants", format!("{KEY}\n").repeat(n).as_bytes());
-        let rest = format!("--key {key} --rounds {rounds} --block 300 --right {right}");
+        let rest = format!("--key {key} --rounds {rounds} --block {block} --right {right}");
         let rest = format!("{rest} --grants {}", grants.to_str().unwrap());
         on_roll("queue", &roll, &rest).refused()
     };
-    for n in [0, 1, 64] {
-        assert_eq!(number("00", 10, n, 2), 1);
-        assert_eq!(number(KEY, 12, n, 2), 2);
-        assert_eq!(number(KEY, 10, n, 3), 7);
-        assert_eq!(number("00", 12, n, 3), 1);
-        assert_eq!(number(KEY, 12, n, 0), 2);
+    for block in [300, 0] {
+        for n in [0, 1, 64] {
+            assert_eq!(number("00", 10, n, 2, block), 1);
+            assert_eq!(number(KEY, 12, n, 2, block), 2);
+            assert_eq!(number(KEY, 10, n, 3, block), 7);
+            assert_eq!(number("00", 12, n, 3, block), 1);
+            assert_eq!(number(KEY, 12, n, 0, block), 2);
+            assert_eq!(number(KEY, 10, n, 2, 0), 14);
+        }
+        assert_eq!(number(KEY, 10, 65, 2, block), 3);
+        assert_eq!(number(KEY, 10, 65, 3, block), 3);
+        assert_eq!(number(KEY, 12, 65, 3, block), 2);
+        assert_eq!(number("00", 12, 65, 3, block), 1);
     }
-    assert_eq!(number(KEY, 10, 65, 2), 3);
-    assert_eq!(number(KEY, 10, 65, 3), 3);
-    assert_eq!(number(KEY, 12, 65, 3), 2);
-    assert_eq!(number("00", 12, 65, 3), 1);
 }
 
 #[test]

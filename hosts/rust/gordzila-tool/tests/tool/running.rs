@@ -1,6 +1,6 @@
 //! What the tests share: running the tool, and a directory for each test.
 
-use gordzila::PageKeys;
+use gordzila::{seal_page, PageKeys, SizeBlock};
 use std::ffi::OsStr;
 use std::fs::{self, File};
 use std::io::Write;
@@ -23,6 +23,12 @@ pub const PAGE_KEYS: PageKeys<'static> = PageKeys {
         0x0f, 0x1e, 0x2d, 0x3c, 0x4b, 0x5a, 0x69, 0x78, 0x87, 0x96, 0xa5, 0xb4,
     ],
 };
+
+/// Page 4 of size block 300 under these keys with 10 rounds.
+pub fn sealed(payload: &[u8]) -> [u8; 512] {
+    let block = SizeBlock::new(300).unwrap();
+    seal_page(PAGE_KEYS, 10, block, 4, payload).unwrap()
+}
 
 /// What a run of the tool came to.
 #[derive(Debug, PartialEq, Eq)]

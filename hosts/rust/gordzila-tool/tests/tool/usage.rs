@@ -1,6 +1,6 @@
 //! Bad usage, help and the version.
 
-use crate::running::{line, run, run_unheard, Room, KEY, OTHER_KEY, PAGE_KEYS};
+use crate::running::{line, run, run_unheard, sealed, Room, KEY, OTHER_KEY};
 use std::ffi::OsStr;
 use std::fs;
 use std::os::unix::ffi::OsStrExt;
@@ -34,8 +34,7 @@ fn words(complete: &str, room: &Room) -> Vec<String> {
     let roll = named(room.roll(&[(7, 1)]));
     let old = named(room.old_roll(&[(7, 1)]));
     let grants = named(room.file("grants", KEY.as_bytes()));
-    let sealed = gordzila::seal_page(PAGE_KEYS, 10, 300, 4, b"front panel").unwrap();
-    let page = named(room.file("page", &sealed));
+    let page = named(room.file("page", &sealed(b"front panel")));
     complete
         .split(' ')
         .map(|word| match word {
@@ -342,6 +341,39 @@ fn help_tells_what_a_page_is_not() {
         ("open", "An older page with the same numbers opens too"),
         ("open", "- stands for standard input"),
         ("open", "one that exists is not replaced"),
+    ] {
+        let help = line(&format!("help {name}")).done();
+        assert!(help.replace('\n', " ").contains(words), "{words}: {help}");
+    }
+}
+
+/// A blank form must not be taken for a grant that is wrong.
+#[test]
+fn help_tells_of_size_block_0() {
+    for (name, words) in [
+        ("issue", "the number of the size block, not 0"),
+        ("issue", "size block 0, as a blank form sends it, with 14"),
+        ("check", "the number of the size block asked for, not 0"),
+        (
+            "check",
+            "is refused with 14, which says nothing of the grant",
+        ),
+        (
+            "check",
+            "Grants that were issued for 0, before version 0.7, open nothing",
+        ),
+        ("queue", "the number of the size block asked for, not 0"),
+        (
+            "queue",
+            "size block 0 is with 14, the status is 1 and there is no verdict",
+        ),
+        ("seal", "the number of the size block, not 0"),
+        ("seal", "size block 0 is with 14, no file is made"),
+        (
+            "open",
+            "So does one that was sealed for size block 0, before version 0.7",
+        ),
+        ("open", "seal that for another size block"),
     ] {
         let help = line(&format!("help {name}")).done();
         assert!(help.replace('\n', " ").contains(words), "{words}: {help}");

@@ -2,7 +2,7 @@
 //! when it changes.
 
 use crate::header::in_one_line;
-use crate::repository_file;
+use crate::{block, repository_file};
 use gordzila::{check, check_queue, issue, raw, Reason, Right, Roll};
 use Right::{Overwriting, Reading};
 
@@ -16,11 +16,11 @@ fn checked(roll: &Roll, grant: &[u8], asked: Right) -> u32 {
 
 /// The verdict on a grant in a queue of one.
 fn queued(roll: &Roll, grant: [u8; 12], asked: Right) -> Result<(), Reason> {
-    check_queue(&KEY, ROUNDS, roll, &[grant], 300, asked).unwrap()[0]
+    check_queue(&KEY, ROUNDS, roll, &[grant], block(300), asked).unwrap()[0]
 }
 
 fn issued(roll: &Roll, contractor: u32, right: Right) -> Result<[u8; 12], Reason> {
-    issue(&KEY, ROUNDS, roll, contractor, 300, right)
+    issue(&KEY, ROUNDS, roll, contractor, block(300), right)
 }
 
 /// A roll on which a contractor is in standing, with any byte as their highest right. Those
@@ -139,18 +139,18 @@ fn an_old_roll_opens_what_it_opened_or_less() {
         assert_eq!(checked(&roll, &grant, Reading), 1007);
         assert_eq!(checked(&roll, &grant, Overwriting), expected);
     }
-    let read = check(&KEY, ROUNDS, &Roll::empty(), &grant, 300, Reading);
+    let read = check(&KEY, ROUNDS, &Roll::empty(), &grant, block(300), Reading);
     assert_eq!(read, Err(Reason::NotInStanding));
 }
 
-/// What a host of 0.5 has to be told stands in the header, in the newest changes, and in an
+/// What a host of 0.5 has to be told stands in the header, in the changes of 0.6, and in an
 /// order in which it can be done: a roll that is converted first stops the hosts of 0.5.
 #[test]
 fn the_header_tells_of_rolls_of_400_bytes() {
     let header = repository_file("include/gordzila.h");
-    let (_, newest) = header.split_once("\n * Changes in 0.6.0").unwrap();
-    let (newest, _) = newest.split_once("\n * Changes in ").unwrap();
-    let text = in_one_line(&newest.replace("\n *", "\n"));
+    let (_, changes) = header.split_once("\n * Changes in 0.6.0").unwrap();
+    let (changes, _) = changes.split_once("\n * Changes in ").unwrap();
+    let text = in_one_line(&changes.replace("\n *", "\n"));
     let mut rest = &text[..];
     for words in [
         "Hosts that share a roll change over together",

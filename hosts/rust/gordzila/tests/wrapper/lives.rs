@@ -1,7 +1,7 @@
 //! The roll and the grants, against the stored output of the independent program.
 
-use crate::{block_of, bytes_of, digits_of, number_of, repository_file};
-use gordzila::{check, check_queue, issue, raw, Opened, Reason, Right, Roll};
+use crate::{block, block_of, bytes_of, digits_of, number_of, repository_file};
+use gordzila::{check, check_queue, issue, raw, Opened, Reason, Right, Roll, SizeBlock};
 use Right::{Overwriting, Reading};
 
 /// How many lines a life has.
@@ -85,7 +85,7 @@ struct Life {
     key: Vec<u8>,
     rounds: u32,
     contractor: u32,
-    block: u32,
+    block: SizeBlock,
     right: Right,
     roll: Roll,
 }
@@ -187,7 +187,7 @@ impl Life {
             key: bytes_of(fields[1]),
             rounds: number_of(fields[2]),
             contractor: number_of(fields[3]),
-            block: number_of(fields[4]),
+            block: block(number_of(fields[4])),
             right: Right::from_number(number_of(fields[5])).unwrap(),
             roll: Roll::empty(),
         }
@@ -200,7 +200,7 @@ impl Life {
         lines.push(self.issue(right));
         let a = grant_in(&lines[3]);
         lines.push(self.check(&a, right));
-        lines.push(self.check_for(&a, self.block.wrapping_add(1), right));
+        lines.push(self.check_for(&a, block(self.block.number() + 1), right));
         lines.extend([self.check(&a, other(right)), self.issue(other(right))]);
         lines.push(self.change_right(1));
         lines.extend([self.check(&a, Overwriting), self.check(&a, Reading)]);
@@ -267,7 +267,7 @@ impl Life {
         self.check_for(grant, self.block, right)
     }
 
-    fn check_for(&self, grant: &[u8], block: u32, right: Right) -> String {
+    fn check_for(&self, grant: &[u8], block: SizeBlock, right: Right) -> String {
         let asked = right.number();
         match check(&self.key, self.rounds, &self.roll, grant, block, right) {
             Ok(Opened { contractor, right }) => {

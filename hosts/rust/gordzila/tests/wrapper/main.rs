@@ -1,6 +1,7 @@
 //! Tests of the wrapper against the header and against what the independent program
 //! printed.
 
+mod block_zero;
 mod header;
 mod highest;
 mod holder_refusals;
@@ -13,7 +14,9 @@ mod refusals;
 mod rights;
 mod routes;
 mod vectors;
+mod zero;
 
+use gordzila::SizeBlock;
 use std::fs;
 use std::path::Path;
 
@@ -46,4 +49,12 @@ fn block_of(digits: &str) -> [u8; 12] {
 
 fn number_of(digits: &str) -> u32 {
     digits.parse().unwrap()
+}
+
+/// The size block with a number that is not 0.
+const fn block(number: u32) -> SizeBlock {
+    match SizeBlock::new(number) {
+        Some(block) => block,
+        None => panic!("0 is no size block"),
+    }
 }

@@ -1,7 +1,7 @@
 //! Sealed pages: what a page has, what it opens to, when a call refuses, and what it leaves
 //! in the scratch and in the output.
 
-use crate::bytes_of;
+use crate::{block, bytes_of};
 use gordzila::{encipher, open_page, raw, seal_page, OpenedPage, PageKeys, Reason};
 
 const FIRST: [u8; 24] = [3; 24];
@@ -19,7 +19,7 @@ fn keys(length: usize) -> PageKeys<'static> {
 }
 
 /// The 12 plain bytes of a page.
-fn header(block: u32, number: u16, used: u16) -> [u8; 12] {
+pub fn header(block: u32, number: u16, used: u16) -> [u8; 12] {
     let parts = [
         &block.to_be_bytes()[..],
         &number.to_be_bytes(),
@@ -48,7 +48,7 @@ fn check(key: &[u8], rounds: u32, stored: &[u8]) -> [u8; 8] {
 
 /// The page with any 12 plain bytes and any payload, zeros after it, by the header's words
 /// over the cipher.
-fn page_of(keys: PageKeys<'_>, rounds: u32, header: [u8; 12], payload: &[u8]) -> [u8; 512] {
+pub fn page_of(keys: PageKeys<'_>, rounds: u32, header: [u8; 12], payload: &[u8]) -> [u8; 512] {
     let (mut page, mut plain) = ([0; 512], [0; 492]);
     page[..12].copy_from_slice(&header);
     plain[..payload.len()].copy_from_slice(payload);
@@ -90,10 +90,10 @@ fn a_page_of_the_independent_program_opens_and_is_sealed_again() {
     let second = &bytes_of("7c1ce18701bf31de56720f47");
     let (keys, page) = (PageKeys { first, second }, bytes_of(PRINTED));
     let opened = open_page(keys, 10, &page).unwrap();
-    let (block, number) = (opened.size_block, opened.page_number);
-    assert_eq!((block, number), (1_734_772_569, 43_656));
+    let (size_block, number) = (opened.size_block, opened.page_number);
+    assert_eq!((size_block, number), (1_734_772_569, 43_656));
     assert_eq!(opened.payload.len(), 166);
-    let again = seal_page(keys, 10, block, number, &opened.payload).unwrap();
+    let again = seal_page(keys, 10, block(size_block), number, &opened.payload).unwrap();
     assert_eq!(again[..], page);
 }
 
@@ -104,7 +104,8 @@ fn a_page_is_what_the_rule_says_and_opens_to_what_was_sealed() {
             for used in [0, 1, 11, 12, 13, 300, 480, 481, 491, 492] {
                 let (keys, payload) = (keys(length), bytes(used));
                 let (size_block, page_number) = (0xfedc_ba98, 0x7654);
-                let page = seal_page(keys, rounds, size_block, page_number, &payload).unwrap();
+                let page = seal_page(keys, rounds, block(size_block), page_number, &payload);
+                let page = page.unwrap();
                 let header = header(size_block, page_number, used as u16);
                 assert_eq!(page, page_of(keys, rounds, header, &payload));
                 let opened = OpenedPage {
@@ -122,7 +123,7 @@ fn a_page_is_what_the_rule_says_and_opens_to_what_was_sealed() {
 #[test]
 fn a_page_with_a_byte_changed_never_opens() {
     for (length, rounds, _) in SIZES {
-        let page = seal_page(keys(length), rounds, 300, 4, &bytes(300)).unwrap();
+        let page = seal_page(keys(length), rounds, block(300), 4, &bytes(300)).unwrap();
         for at in 0..page.len() {
             for change in [1 << (at % 8), 255] {
                 let mut changed = page;
@@ -141,7 +142,7 @@ fn a_page_with_a_byte_changed_never_opens() {
 
 #[test]
 fn a_count_that_was_changed_is_refused() {
-    let mut page = seal_page(keys(12), 10, 300, 4, &bytes(300)).unwrap();
+    let mut page = seal_page(keys(12), 10, block(300), 4, &bytes(300)).unwrap();
     for used in (0..=1000_u16).chain([32_768, 65_535]) {
         page[6..8].copy_from_slice(&used.to_be_bytes());
         let expected = match used {
@@ -156,16 +157,17 @@ fn a_count_that_was_changed_is_refused() {
 /// Which page is wanted, only who opens it knows.
 #[test]
 fn a_page_is_not_bound_to_its_place_or_time() {
-    let older = seal_page(keys(18), 14, 300, 4, b"older").unwrap();
-    let newer = seal_page(keys(18), 14, 300, 4, b"newer").unwrap();
-    let other = seal_page(keys(18), 14, 301, 4, b"other").unwrap();
+    let older = seal_page(keys(18), 14, block(300), 4, b"older").unwrap();
+    let newer = seal_page(keys(18), 14, block(300), 4, b"newer").unwrap();
+    let other = seal_page(keys(18), 14, block(301), 4, b"other").unwrap();
     for (page, block, payload) in [(older, 300, b"older"), (newer, 300, b"newer")] {
         let opened = open_page(keys(18), 14, &page).unwrap();
         assert_eq!((opened.size_block, opened.page_number), (block, 4));
         assert_eq!(opened.payload, payload);
     }
     assert_eq!(open_page(keys(18), 14, &other).unwrap().size_block, 301);
-    assert_eq!(seal_page(keys(18), 14, 300, 4, b"older"), Ok(older));
+    let again = seal_page(keys(18), 14, block(300), 4, b"older");
+    assert_eq!(again, Ok(older));
 }
 
 #[test]
@@ -173,7 +175,7 @@ fn other_keys_and_rounds_do_not_open_a_page() {
     let under = |first, second| PageKeys { first, second };
     let (a, b, c) = (&[1; 12], &[2; 12], &[3; 12]);
     for used in [0, 300, 480] {
-        let page = seal_page(under(a, b), 10, 300, 4, &bytes(used)).unwrap();
+        let page = seal_page(under(a, b), 10, block(300), 4, &bytes(used)).unwrap();
         for (keys, rounds, expected) in [
             (under(b, a), 10, Reason::CheckDiffers),
             (under(a, c), 10, Reason::CheckDiffers),
@@ -185,7 +187,7 @@ fn other_keys_and_rounds_do_not_open_a_page() {
         }
     }
     // Where no byte is unused, nothing tells that the first key is another.
-    let page = seal_page(under(a, b), 10, 300, 4, &bytes(492)).unwrap();
+    let page = seal_page(under(a, b), 10, block(300), 4, &bytes(492)).unwrap();
     let opened = open_page(under(c, b), 10, &page).unwrap();
     assert_eq!((opened.size_block, opened.page_number), (300, 4));
     assert_ne!(opened.payload, bytes(492));
@@ -194,7 +196,7 @@ fn other_keys_and_rounds_do_not_open_a_page() {
 /// Whether two keys are taken, which both calls have to agree on.
 fn taken(first: &[u8], second: &[u8], rounds: u32) -> Result<(), Reason> {
     let keys = PageKeys { first, second };
-    let page = seal_page(keys, rounds, 300, 4, b"front panel");
+    let page = seal_page(keys, rounds, block(300), 4, b"front panel");
     let opened = open_page(keys, rounds, &page.unwrap_or([0; 512]));
     assert_eq!(page.err(), opened.err());
     page.map(|_| ())
@@ -274,11 +276,11 @@ fn first_of(faults: u32, numbers: &[u64]) -> Option<usize> {
 }
 
 /// What can be wrong with a sealing, in the header's order: a key, its length against the
-/// other's, equal keys, round count, scratch, output, payload.
-const SEALING: [u64; 7] = [1, 1, 1, 2, 4, 4, 12];
+/// other's, equal keys, round count, scratch, output, size block, payload.
+const SEALING: [u64; 8] = [1, 1, 1, 2, 4, 4, 14, 12];
 
 #[test]
-fn sealing_refuses_with_1_2_4_12() {
+fn sealing_refuses_with_1_2_4_14_12() {
     for faults in 0..1 << SEALING.len() {
         let or = |at: u32, right: usize, wrong: usize| match faults >> at & 1 {
             1 => wrong,
@@ -288,9 +290,10 @@ fn sealing_refuses_with_1_2_4_12() {
         let length = first.len() - or(1, 0, 1);
         let second = &second[or(2, 1, 0)][..length];
         let (first, rounds) = (&first[..], or(3, 14, 18) as u32);
-        let (keys, payload) = (PageKeys { first, second }, bytes(or(6, 492, 493)));
+        let (keys, block) = (PageKeys { first, second }, or(6, 300, 0) as u32);
+        let payload = bytes(or(7, 492, 493));
         let given = left(or(4, 576, 575), or(5, 512, 511), 512, |scratch, out| {
-            raw::seal_page_number(keys, rounds, 300, 4, &payload, scratch, out).into()
+            raw::seal_page_number(keys, rounds, block, 4, &payload, scratch, out).into()
         });
         let refused = first_of(faults, &SEALING);
         let expected = Left {
@@ -298,7 +301,7 @@ fn sealing_refuses_with_1_2_4_12() {
             cleared: refused.is_none(),
             written: refused.is_none(),
         };
-        assert_eq!(given, expected, "{faults:07b}");
+        assert_eq!(given, expected, "{faults:08b}");
     }
 }
 
@@ -309,10 +312,10 @@ const OPENING: [u64; 9] = [1, 2, 4, 4, 11, 11, 11, 13, 11];
 /// The faults from the check on are found once the scratch is used.
 const CHECK: usize = 7;
 
-/// A page of size block 300 with some of these faults.
-fn faulty(keys: PageKeys<'_>, faults: u32) -> Vec<u8> {
+/// A page of a size block with some of these faults.
+fn faulty(keys: PageKeys<'_>, block: u32, faults: u32) -> Vec<u8> {
     let has = |at: u32| faults >> at & 1 == 1;
-    let mut header = header(300, 4, if has(5) { 493 } else { 200 });
+    let mut header = header(block, 4, if has(5) { 493 } else { 200 });
     header[10] = has(6).into();
     let mut payload = bytes(200);
     if has(8) {
@@ -325,32 +328,34 @@ fn faulty(keys: PageKeys<'_>, faults: u32) -> Vec<u8> {
     page
 }
 
+/// Pages for size block 0, which were sealed before version 0.7, are refused for the same
+/// faults and for no other.
 #[test]
 fn opening_refuses_with_1_2_4_11_13_11() {
-    for faults in 0..1 << OPENING.len() {
+    for (faults, block) in (0..1 << OPENING.len()).flat_map(|set| [(set, 300), (set, 0)]) {
         let or = |at: u32, right: usize, wrong: usize| match faults >> at & 1 {
             1 => wrong,
             _ => right,
         };
-        let page = faulty(keys(18), faults);
+        let page = faulty(keys(18), block, faults);
         let (keys, rounds) = (keys(or(0, 18, 17)), or(1, 14, 18) as u32);
         let given = left(or(2, 576, 575), or(3, 492, 491), 492, |scratch, out| {
             raw::open_page_number(keys, rounds, &page, scratch, out)
         });
         let refused = first_of(faults, &OPENING);
         let expected = Left {
-            // 2^63, 200 used bytes, page 4, size block 300.
-            number: refused.map_or(0x80c8_0004_0000_012c, |at| OPENING[at]),
+            // 2^63, 200 used bytes, page 4, and the size block.
+            number: refused.map_or(0x80c8_0004_0000_0000 + u64::from(block), |at| OPENING[at]),
             cleared: refused.map_or(true, |at| at >= CHECK),
             written: refused.is_none(),
         };
-        assert_eq!(given, expected, "{faults:09b}");
+        assert_eq!(given, expected, "{faults:09b}, {block}");
     }
 }
 
 #[test]
 fn what_is_longer_than_it_has_to_be_keeps_the_rest() {
-    let page = seal_page(keys(24), 23, 300, 4, &bytes(492)).unwrap();
+    let page = seal_page(keys(24), 23, block(300), 4, &bytes(492)).unwrap();
     let done = |number| Left {
         number,
         cleared: true,
@@ -381,7 +386,8 @@ fn the_lengths_have_these_limits() {
         assert_eq!(raw_seal(scratch, out, 492), 4, "{scratch}, {out}");
     }
     assert_eq!((raw_seal(577, 512, 0), raw_seal(576, 513, 0)), (0, 0));
-    let page = [seal_page(keys(12), 11, 300, 4, b"").unwrap(), [0; 512]].concat();
+    let page = seal_page(keys(12), 11, block(300), 4, b"").unwrap();
+    let page = [page, [0; 512]].concat();
     let opened = |length: usize| open_page(keys(12), 11, &page[..length]);
     for wrong in [0, 1, 12, 492, 504, 511, 513, 768, 1024] {
         assert_eq!(opened(wrong), Err(Reason::NotAPage), "{wrong}");

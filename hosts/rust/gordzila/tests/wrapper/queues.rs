@@ -1,5 +1,6 @@
 //! The queue: which verdict each grant gets, and when the whole call is refused.
 
+use crate::block;
 use crate::refusals::numbered;
 use gordzila::{check, check_queue, encipher, issue, raw, Reason, Right, Roll, QUEUE_MOST_GRANTS};
 use std::collections::BTreeSet;
@@ -89,7 +90,7 @@ fn each_grant_gets_the_verdict_of_the_rules() {
             Err(Reason::NotAGrant),
             Ok(()),
         ];
-        let verdicts = check_queue(&KEY, ROUNDS, &roll(), &pile, 300, right).unwrap();
+        let verdicts = check_queue(&KEY, ROUNDS, &roll(), &pile, block(300), right).unwrap();
         assert_eq!(verdicts, expected, "{right}");
     }
 }
@@ -98,7 +99,7 @@ fn each_grant_gets_the_verdict_of_the_rules() {
 fn each_verdict_is_that_of_the_single_check() {
     let (roll, pile) = (roll(), pile());
     for right in [Reading, Overwriting] {
-        for block in [300, 301, 302] {
+        for block in [300, 301, 302].map(block) {
             let verdicts = check_queue(&KEY, ROUNDS, &roll, &pile, block, right).unwrap();
             let single = |grant| check(&KEY, ROUNDS, &roll, grant, block, right).map(|_| ());
             let singles: Vec<_> = pile.iter().map(|grant| single(grant)).collect();
@@ -138,9 +139,10 @@ fn a_change_of_the_roll_is_seen_by_every_grant_of_its_contractor() {
     let mut roll = Roll::empty();
     roll.enter(7, Overwriting).unwrap();
     roll.enter(8, Overwriting).unwrap();
-    let issued = |contractor| issue(&KEY, ROUNDS, &roll, contractor, 300, Overwriting).unwrap();
-    let pile = [issued(7), issued(8), issued(7)];
-    let verdicts = |roll: &Roll| check_queue(&KEY, ROUNDS, roll, &pile, 300, Overwriting).unwrap();
+    let issued = |contractor| issue(&KEY, ROUNDS, &roll, contractor, block(300), Overwriting);
+    let pile = [7, 8, 7].map(|contractor| issued(contractor).unwrap());
+    let verdicts =
+        |roll: &Roll| check_queue(&KEY, ROUNDS, roll, &pile, block(300), Overwriting).unwrap();
     assert_eq!(verdicts(&roll), [Ok(()); 3]);
     roll.change_right(7, Reading).unwrap();
     let demoted = Err(Reason::AboveHighest);
@@ -157,7 +159,7 @@ fn a_change_of_the_roll_is_seen_by_every_grant_of_its_contractor() {
 
 #[test]
 fn a_queue_without_grants_has_no_verdicts() {
-    let queue = |key: &[u8], rounds| check_queue(key, rounds, &roll(), &[], 300, Reading);
+    let queue = |key: &[u8], rounds| check_queue(key, rounds, &roll(), &[], block(300), Reading);
     assert_eq!(queue(&KEY, ROUNDS), Ok(vec![]));
     assert_eq!(queue(&KEY[1..], ROUNDS), Err(Reason::KeyLength));
     assert_eq!(queue(&KEY, 13), Err(Reason::RoundCount));
@@ -167,7 +169,7 @@ fn a_queue_without_grants_has_no_verdicts() {
 fn a_queue_has_64_grants_at_most() {
     let queue = |key: &[u8], rounds, n| {
         let pile = vec![grant([7, 1, 44, 2]); n];
-        check_queue(key, rounds, &roll(), &pile, 300, Overwriting)
+        check_queue(key, rounds, &roll(), &pile, block(300), Overwriting)
     };
     assert_eq!(queue(&KEY, ROUNDS, 64), Ok(vec![Ok(()); 64]));
     for n in [65, 66, 128, 1000] {
@@ -177,30 +179,43 @@ fn a_queue_has_64_grants_at_most() {
     }
 }
 
-/// The number that a queue of lengths answers; if it is done, it has written a byte for
-/// each grant, and otherwise none.
-fn number(key: usize, rounds: u32, roll: usize, grants: usize, right: u32, answers: usize) -> u32 {
+/// The number that a queue of lengths answers for a right and a size block; if it is done, it
+/// has written a byte for each grant, and otherwise none.
+fn number_for(
+    (right, block): (u32, u32),
+    key: usize,
+    rounds: u32,
+    roll: usize,
+    grants: usize,
+    answers: usize,
+) -> u32 {
     let (key, roll, pile) = (vec![3; key], vec![0; roll], vec![2; grants]);
     numbered(answers, grants / 12, |answers| {
-        raw::check_queue_number(&key, rounds, &roll, &pile, 300, right, answers)
+        raw::check_queue_number(&key, rounds, &roll, &pile, block, right, answers)
     })
 }
 
+/// The same for size block 300.
+fn number(key: usize, rounds: u32, roll: usize, grants: usize, right: u32, answers: usize) -> u32 {
+    number_for((right, 300), key, rounds, roll, grants, answers)
+}
+
 /// What can be wrong with a whole call, in the header's order: key, round count, roll,
-/// a length that is no multiple of 12, one that is over 768, answers, right.
-const FAULTS: [u32; 7] = [1, 2, 3, 3, 3, 4, 7];
+/// a length that is no multiple of 12, one that is over 768, answers, right, size block.
+const FAULTS: [u32; 8] = [1, 2, 3, 3, 3, 4, 7, 14];
 
 #[test]
-fn the_whole_call_is_refused_with_1_2_3_4_7() {
+fn the_whole_call_is_refused_with_1_2_3_4_7_14() {
     for faults in 0..1 << FAULTS.len() {
         let faulty = |at: usize| faults >> at & 1 == 1;
         let or = |at, right: usize, wrong: usize| if faulty(at) { wrong } else { right };
         let grants = or(3, 0, 1) + or(4, 24, 780);
         let answers = grants / 12 - or(5, 0, 1);
         let (key, rounds, roll) = (or(0, 18, 17), or(1, 14, 18) as u32, or(2, 600, 400));
-        let given = number(key, rounds, roll, grants, or(6, 2, 3) as u32, answers);
+        let asked = (or(6, 2, 3) as u32, or(7, 300, 0) as u32);
+        let given = number_for(asked, key, rounds, roll, grants, answers);
         let first = (0..FAULTS.len()).find(|&at| faulty(at));
-        assert_eq!(given, first.map_or(0, |at| FAULTS[at]), "{faults:07b}");
+        assert_eq!(given, first.map_or(0, |at| FAULTS[at]), "{faults:08b}");
     }
 }
 
@@ -237,8 +252,10 @@ fn what_is_wrong_is_refused_without_grants_too() {
         for right in [0, 3, 257, 258, u32::MAX] {
             assert_eq!(number(24, 18, 600, grants, right, 64), 7, "{right}");
         }
+        assert_eq!(number_for((1, 0), 24, 18, 600, grants, 64), 14);
         assert_eq!(number(24, 18, 600, grants, 1, 64), 0);
     }
     assert_eq!(number(24, 18, 600, 0, 1, 0), 0);
     assert_eq!(number(24, 18, 600, 0, 3, 0), 7);
+    assert_eq!(number_for((1, 0), 24, 18, 600, 0, 0), 14);
 }

@@ -2,7 +2,8 @@
 //! of an answer or of a roll has to be what they say of it.
 
 use crate::header::in_one_line;
-use crate::repository_file;
+use crate::pages::{header, page_of};
+use crate::{block, repository_file};
 use gordzila::{
     raw, KeyHolder, Opened, PageHeader, PageKeys, Right, Roll, Walked, Way, ROLL_BYTES,
 };
@@ -91,11 +92,11 @@ fn a_check_says_what_the_readers_say() {
         let mut roll = Roll::empty();
         roll.enter(contractor, Right::Overwriting).unwrap();
         for right in [Right::Reading, Right::Overwriting] {
-            let grant = gordzila::issue(&[1; 12], 10, &roll, contractor, 300, right).unwrap();
-            for (block, asked) in [(300, 1), (300, 2), (301, 1), (300, 3)] {
-                let (key, roll) = (&[1; 12], roll.bytes());
-                let answer = raw::check_number(key, 10, roll, &grant, block, asked);
-                let said = match raw::check(key, 10, roll, &grant, block, asked) {
+            let issued = gordzila::issue(&[1; 12], 10, &roll, contractor, block(300), right);
+            for (number, asked) in [(300, 1), (300, 2), (301, 1), (300, 3), (0, 1)] {
+                let (key, roll, grant) = (&[1; 12], roll.bytes(), &issued.unwrap());
+                let answer = raw::check_number(key, 10, roll, grant, number, asked);
+                let said = match raw::check(key, 10, roll, grant, number, asked) {
                     Ok(Opened { contractor, right }) => (true, right.number(), contractor),
                     Err(_) => (false, 0, 0),
                 };
@@ -111,7 +112,7 @@ fn a_check_says_what_the_readers_say() {
 fn a_queue_says_what_the_reader_says() {
     let (key, mut roll) = (&[1; 12], Roll::empty());
     roll.enter(7, Right::Overwriting).unwrap();
-    let issued = |right| gordzila::issue(key, 10, &roll, 7, 300, right).unwrap();
+    let issued = |right| gordzila::issue(key, 10, &roll, 7, block(300), right).unwrap();
     let pile = [issued(Right::Reading), [0; 12], issued(Right::Overwriting)];
     for (rounds, right) in [
         (9, Right::Reading),
@@ -121,7 +122,7 @@ fn a_queue_says_what_the_reader_says() {
         let (grants, asked, mut answers) = (pile.concat(), right.number(), [0; 3]);
         let returned =
             raw::check_queue_number(key, rounds, roll.bytes(), &grants, 300, asked, &mut answers);
-        let said = match gordzila::check_queue(key, rounds, &roll, &pile, 300, right) {
+        let said = match gordzila::check_queue(key, rounds, &roll, &pile, block(300), right) {
             Ok(verdicts) => verdicts.iter().map(|verdict| verdict.is_ok()).collect(),
             Err(_) => vec![false; 3],
         };
@@ -152,12 +153,13 @@ fn a_roll_says_what_the_reader_says() {
     }
 }
 
+/// Pages that were sealed for size block 0, before version 0.7, are among them.
 #[test]
 fn an_opening_says_what_the_readers_say() {
     let (first, second) = (&[1; 12], &[2; 12]);
     let keys = PageKeys { first, second };
-    for (block, number, used) in [(0, 0, 0), (13, 1, 1), (u32::MAX, u16::MAX, 492)] {
-        let page = gordzila::seal_page(keys, 10, block, number, &vec![3; used]).unwrap();
+    for (block, number, used) in [(0, 0, 0), (13, 1, 1), (u32::MAX, u16::MAX, 492), (0, 1, 9)] {
+        let page = page_of(keys, 10, header(block, number, used), &vec![3; used.into()]);
         for (rounds, page) in [(9, &page[..]), (10, &page), (11, &page), (10, &page[1..])] {
             let (mut scratch, mut out) = ([0; 576], [0; 492]);
             let answer = raw::open_page_number(keys, rounds, page, &mut scratch, &mut out);

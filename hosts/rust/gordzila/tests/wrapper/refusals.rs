@@ -205,32 +205,35 @@ fn withdrawing_refuses_with_3_6_20() {
 }
 
 #[test]
-fn issuing_refuses_with_1_2_3_4_6_7_20_25() {
+fn issuing_refuses_with_1_2_3_4_6_7_14_20_25() {
     let roll = roll();
-    let number = |key: usize, rounds, roll: &[u8], out, contractor, right| {
+    let number = |key: usize, rounds, roll: &[u8], out, contractor, right, block| {
         numbered(out, 12, |out| {
-            raw::issue_number(&[1; 30][..key], rounds, roll, contractor, 300, right, out)
+            raw::issue_number(&[1; 30][..key], rounds, roll, contractor, block, right, out)
         })
     };
-    assert_eq!(number(11, 0, &[], 0, 0, 0), 1);
-    assert_eq!(number(12, 0, &[], 0, 0, 0), 2);
+    assert_eq!(number(11, 0, &[], 0, 0, 0, 0), 1);
+    assert_eq!(number(12, 0, &[], 0, 0, 0, 0), 2);
     for length in [0, 399, 400, 401, 599] {
-        assert_eq!(number(12, 10, &roll[..length], 0, 0, 0), 3, "{length}");
+        assert_eq!(number(12, 10, &roll[..length], 0, 0, 0, 0), 3, "{length}");
     }
-    assert_eq!(number(12, 10, &[0; 601], 0, 0, 0), 3);
-    assert_eq!(number(12, 10, &roll, 11, 0, 0), 4);
-    assert_eq!(number(12, 10, &roll, 12, 0, 0), 6);
-    assert_eq!(number(12, 10, &roll, 12, 201, 0), 6);
-    assert_eq!(number(12, 10, &roll, 12, 8, 0), 7);
-    assert_eq!(number(12, 10, &roll, 12, 8, 3), 7);
-    assert_eq!(number(12, 10, &roll, 12, 8, 2), 20);
-    assert_eq!(number(12, 10, &roll, 12, 9, 2), 25);
-    assert_eq!(number(12, 10, &roll, 12, 9, 1), 0);
-    assert_eq!(number(12, 10, &roll, 13, 7, 2), 0);
+    assert_eq!(number(12, 10, &[0; 601], 0, 0, 0, 0), 3);
+    assert_eq!(number(12, 10, &roll, 11, 0, 0, 0), 4);
+    assert_eq!(number(12, 10, &roll, 12, 0, 0, 0), 6);
+    assert_eq!(number(12, 10, &roll, 12, 201, 0, 0), 6);
+    assert_eq!(number(12, 10, &roll, 12, 8, 0, 0), 7);
+    assert_eq!(number(12, 10, &roll, 12, 8, 3, 0), 7);
+    assert_eq!(number(12, 10, &roll, 12, 8, 2, 0), 14);
+    assert_eq!(number(12, 10, &roll, 12, 9, 2, 0), 14);
+    assert_eq!(number(12, 10, &roll, 13, 7, 2, 0), 14);
+    assert_eq!(number(12, 10, &roll, 12, 8, 2, 300), 20);
+    assert_eq!(number(12, 10, &roll, 12, 9, 2, 300), 25);
+    assert_eq!(number(12, 10, &roll, 12, 9, 1, 300), 0);
+    assert_eq!(number(12, 10, &roll, 13, 7, 2, 300), 0);
 }
 
 #[test]
-fn checking_refuses_with_1_2_3_7_8_9_10_20_23_25() {
+fn checking_refuses_with_1_2_3_7_14_8_9_10_20_23_25() {
     let (key, roll, mut grant, mut reading) = ([1; 12], roll(), [0; 12], [0; 12]);
     raw::issue(&key, 10, &roll, 7, 300, 2, &mut grant).unwrap();
     raw::issue(&key, 10, &roll, 7, 300, 1, &mut reading).unwrap();
@@ -245,7 +248,10 @@ fn checking_refuses_with_1_2_3_7_8_9_10_20_23_25() {
     }
     assert_eq!(number(&key, 10, &[0; 601], &grant, 0, 0), 3);
     assert_eq!(number(&key, 10, &roll, &[0; 12], 0, 0), 7);
-    assert_eq!(number(&key, 10, &roll, &[0; 12], 0, 1), 8);
+    assert_eq!(number(&key, 10, &roll, &[0; 12], 0, 1), 14);
+    assert_eq!(number(&key, 10, &[0; 600], &reading, 0, 2), 14);
+    assert_eq!(number(&key, 10, &roll, &grant, 0, 2), 14);
+    assert_eq!(number(&key, 10, &roll, &[0; 12], 300, 1), 8);
     assert_eq!(number(&key, 11, &roll, &grant, 300, 2), 8);
     // On a roll of zeros nobody is in standing, and nobody may overwrite.
     assert_eq!(number(&key, 10, &[0; 600], &reading, 301, 2), 9);

@@ -1,6 +1,6 @@
 //! Which right in a grant opens for which right asked for, and which one is answered.
 
-use crate::repository_file;
+use crate::{block, repository_file};
 use gordzila::{check, encipher, issue, raw, Opened, Reason, Right, Roll};
 use Right::{Overwriting, Reading};
 
@@ -23,7 +23,7 @@ fn grant_with(right: u8) -> [u8; 12] {
 #[test]
 fn what_is_issued_is_such_a_grant() {
     for right in [Reading, Overwriting] {
-        let issued = issue(&KEY, ROUNDS, &roll(1), 7, 300, right).unwrap();
+        let issued = issue(&KEY, ROUNDS, &roll(1), 7, block(300), right).unwrap();
         assert_eq!(issued, grant_with(right.number() as u8));
     }
 }
@@ -38,8 +38,8 @@ fn each_right_in_a_grant_opens_for_these_and_answers_the_one_asked_for() {
         (Overwriting, Overwriting, opens(7, Overwriting)),
     ] {
         let roll = roll(1);
-        let grant = issue(&KEY, ROUNDS, &roll, 7, 300, in_grant).unwrap();
-        let answer = check(&KEY, ROUNDS, &roll, &grant, 300, asked);
+        let grant = issue(&KEY, ROUNDS, &roll, 7, block(300), in_grant).unwrap();
+        let answer = check(&KEY, ROUNDS, &roll, &grant, block(300), asked);
         assert_eq!(answer, expected, "{in_grant}, asked for {asked}");
     }
 }
@@ -49,7 +49,7 @@ fn a_look_answers_1001_to_1200() {
     for contractor in [1, 7, 200] {
         let mut roll = Roll::empty();
         roll.enter(contractor, Overwriting).unwrap();
-        let grant = issue(&KEY, ROUNDS, &roll, contractor, 300, Overwriting).unwrap();
+        let grant = issue(&KEY, ROUNDS, &roll, contractor, block(300), Overwriting).unwrap();
         let number = |asked| raw::check_number(&KEY, ROUNDS, roll.bytes(), &grant, 300, asked);
         assert_eq!(
             (number(1), number(2)),
