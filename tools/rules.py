@@ -14,6 +14,9 @@ ROUNDS = {12: (10, 11), 18: (14, 17), 24: (18, 23)}
 # what the plain bytes of a grant end with
 MARK = 0x475244
 
+# size blocks that may be asked for: numbers that are 0, or 300, where they are cut to one byte, two or three; and the ends
+BLOCKS = (1, 255, 256, 556, 65536, 65836, 2**24, 2**24 + 300, 2**32 - 1)
+
 
 def orders():
     """The order of each call by value, from tools/orders.txt."""

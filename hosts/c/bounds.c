@@ -29,8 +29,6 @@ static const unsigned counts[] = {0, 1, 2, 65532, 65533, 65534, 65535};
 static const uint8_t highest_rights[] = {0, 1, 2, 3, 255};
 static const uint32_t rights[] = {0, 1, 2, 3, 258};
 static const uint8_t rights_in_grants[] = {0, 1, 2, 3, 255};
-/* Some have one byte alone that is not 0, each in another place, so that a number that is cut is found out. */
-static const uint32_t size_blocks[] = {0, 1, 256, 65536, 16777216, 0xffffffffu};
 static const uint32_t stages[] = {0, 1, 11, 12, 17, 18, 23, 24, 256, 0xffffffffu};
 
 static struct lent key, input, roll, out;

@@ -25,8 +25,6 @@ static const size_t page_lengths[] = {0, 12, 504, 511, 512, 513, 1024};
 static const size_t scratch_lengths[] = {0, 575, 576, 577, 1152};
 static const size_t sealed_lengths[] = {0, 511, 512, 513, 1024};
 static const size_t opened_lengths[] = {0, 491, 492, 493, 984};
-/* Some have one byte alone that is not 0, each in another place, so that a number that is cut is found out. */
-static const uint32_t size_blocks[] = {0, 1, 256, 65536, 16777216, 0xffffffffu};
 
 /* The right settings: a key's length with its least and its most rounds. */
 struct size {

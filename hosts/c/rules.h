@@ -22,6 +22,9 @@ static inline uint32_t of_rounds(size_t key_length, uint32_t rounds) {
 
 static inline int is_right(uint32_t right) { return right == GORDZILA_READING || right == GORDZILA_OVERWRITING; }
 
+/* For sweeps. Some have one byte alone that is not 0, each in another place, so that a number that is cut is found out. */
+static const uint32_t size_blocks[] = {0, 1, 256, 65536, 16777216, 0xffffffffu};
+
 /* Every number is one but 0. */
 static inline int is_size_block(uint32_t number) { return number != 0; }
 

@@ -28,8 +28,9 @@ use Rattle.rights.specs.Rights.{isRight}
 use Rattle.rights.proofs.Rights.{within-two}
 use Rattle.issuing.specs.Issuing.{issueTries, issuedGrant}
 use Rattle.checking.specs.Checking.{checkNumber}
-use Rattle.revocation.specs.Claims.{Issued, OpensNothing, IssuedOpens, EarlierNeverOpens, RevokedNeverOpens, RevokedInTwoRooms, roll7, calls7}
-use Rattle.revocation.proofs.Claims.{issued-opens, earlier-never-opens, revoked-never-opens, revoked-in-two-rooms, withdrawn-7}
+use Rattle.revocation.specs.Claims.{Issued, OpensNothing, IssuedOpens, EarlierNeverOpens}
+use Rattle.revocation.specs.Claims.{EarlierInTwoRooms, RevokedNeverOpens, RevokedInTwoRooms, roll7, calls7}
+use Rattle.revocation.proofs.Claims.{issued-opens, earlier-never-opens, earlier-in-two-rooms, revoked-never-opens, revoked-in-two-rooms, withdrawn-7}
 use Rattle.check_call.specs.CheckCall.{callCode}
 use Rattle.roll_calls.specs.RollCalls.{enterCallRoll, emptyCallTries, enterCallTries, withdrawCallTries, changeCallTries}
 use Rattle.issue_call.specs.IssueCall.{issueCallTries, issueCallNumber, issueCallOutput}
@@ -37,7 +38,8 @@ use Rattle.call_claims.specs.CallHistories.{called, bytesAfter, CallIssu
 use Rattle.call_claims.specs.Claims.{CodesTellVerdicts, ChecksNameContractors, CallInOrder, RollCallsInOrder, CallOpensExactlyWhen}
 use Rattle.call_claims.specs.Claims.{CallNeverZero, CallIsCheck}
 use Rattle.call_claims.specs.Claims.{Holds, BytesFollowRoll, CallChecks, CallIssuedOpens, CallOverwritingOpensReading, CallTenOnlyForOverwriting}
-use Rattle.call_claims.specs.Claims.{bytesWith7, CallAnswersTo7, Refuses, CallsRevokeEarlier, CallsRevoke, CallsRevokeInTwoRooms, CallsRevokeSomething}
+use Rattle.call_claims.specs.Claims.{bytesWith7, CallAnswersTo7, Refuses, CallsRevokeEarlier}
+use Rattle.call_claims.specs.Claims.{CallsRevokeEarlierInTwoRooms, CallsRevoke, CallsRevokeInTwoRooms, CallsRevokeSomething}
 use Rattle.call_claims.proofs.Codes as codes
 use Rattle.call_claims.proofs.Opens.{checked-contractor, in-order, is-check, call-opening, call-accepted, never-zero, call-refuses}
 use Rattle.call_claims.proofs.Opens.{call-given, call-ten, call-refused, call-looks}
@@ -190,6 +192,12 @@ unfolding CallsRevokeEarlier EarlierNeverOpens
 calls-revoke-earlier key rounds roll small long contractor grant g hs w =
     grant-refused key rounds roll small long grant hs
     (earlier-never-opens key rounds (rollOf roll) contractor grant g (is-roll roll small long) hs (withdrawn-read w small long))
+
+pub calls-revoke-earlier-in-two-rooms : CallsRevokeEarlierInTwoRooms
+unfolding CallsRevokeEarlierInTwoRooms EarlierInTwoRooms
+calls-revoke-earlier-in-two-rooms key rounds roll small long contractor grant g xs ys zs m w =
+    grant-refused key rounds roll small long grant zs
+    (earlier-in-two-rooms key rounds (rollOf roll) contractor grant g (is-roll roll small long) xs ys zs m w)
 
 pub calls-revoke : CallsRevoke
 unfolding CallsRevoke RevokedNeverOpens

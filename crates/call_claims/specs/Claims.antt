@@ -153,6 +153,12 @@ CallsRevokeEarlier = (key : List ℕ) (rounds : ℕ) (roll : List ℕ) → AreBy
     → Earlier key rounds (rollOf roll) contractor grant
     → (hs : List Change) → CallWithdrawn contractor hs roll → Refuses key rounds (bytesAfter hs roll) grant
 
+-- and for two rooms, in whatever order their calls arrive, once either has called gordzila_withdraw of the contractor, whatever it answered
+unfoldable pub CallsRevokeEarlierInTwoRooms : Type 0
+CallsRevokeEarlierInTwoRooms = (key : List ℕ) (rounds : ℕ) (roll : List ℕ) → AreBytes roll → length roll ≡ rollLength → (contractor : ℕ) (grant : List ℕ)
+    → Earlier key rounds (rollOf roll) contractor grant
+    → (xs ys zs : List Change) → Merge xs ys zs → Withdraws contractor xs ⊎ Withdraws contractor ys → Refuses key rounds (bytesAfter zs roll) grant
+
 -- and so for what gordzila_issue wrote, where it answered 0
 unfoldable pub CallsRevoke : Type 0
 CallsRevoke = (key : List ℕ) (rounds : ℕ) (roll : List ℕ) (contractor block right : ℕ) (out : List ℕ)
@@ -160,7 +166,7 @@ CallsRevoke = (key : List ℕ) (rounds : ℕ) (roll : List ℕ) (contractor bloc
     → (hs : List Change) → CallWithdrawn contractor hs roll
     → Refuses key rounds (bytesAfter hs roll) (grantGiven key rounds roll contractor block right out)
 
--- and so for two rooms, in whatever order their calls arrive, once either has called gordzila_withdraw of its contractor, whatever it answered
+-- in two rooms too
 unfoldable pub CallsRevokeInTwoRooms : Type 0
 CallsRevokeInTwoRooms = (key : List ℕ) (rounds : ℕ) (roll : List ℕ) (contractor block right : ℕ) (out : List ℕ)
     → CallIssued key rounds roll contractor block right out

@@ -15,4 +15,4 @@ known-answers =
 
 pub zero-answers : Hold zeroAnswers
 unfolding zeroAnswers first isSizeBlock highest withinHighest emptyRoll countOf figureOf inStanding withEntry
-zero-answers = refl & refl & refl & refl & refl & refl & refl & refl & refl & refl & refl & refl & tt
+zero-answers = refl & refl & refl & refl & refl & refl & refl & refl & refl & refl & refl & refl & refl & tt

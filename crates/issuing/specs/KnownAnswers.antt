@@ -67,4 +67,6 @@ zeroAnswers =
     ∷ ((issueNumber (replicate 12 0) 10 emptyRoll 7 0 1 (replicate 12 0) ∷ []) is (14 ∷ []))
     -- both issue 14 25
     ∷ (issueTo7 1 0 2 is (14 ∷ []))
+    -- 4 comes before 14; that program's issue has no output
+    ∷ ((issueNumber (replicate 12 0) 10 emptyRoll 7 0 2 (replicate 11 0) ∷ []) is (4 ∷ []))
     ∷ []

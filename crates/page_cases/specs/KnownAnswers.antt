@@ -176,8 +176,6 @@ orderAnswers =
     ((sealNumber pairKey12 pairKey12 12 300 [] (replicate 576 0) (replicate 512 0) ∷ []) is (1 ∷ []))
     -- order seal 2 4
     ∷ ((sealNumber pairKey12 byA 12 300 [] (replicate 575 0) (replicate 512 0) ∷ []) is (2 ∷ []))
-    -- order seal 4 12
-    ∷ ((sealNumber pairKey12 byA 10 300 (replicate 493 0) (replicate 576 0) (replicate 511 0) ∷ []) is (4 ∷ []))
     -- order seal 4 14
     ∷ ((sealNumber pairKey12 byA 10 0 [] (replicate 575 0) (replicate 512 0) ∷ []) is (4 ∷ []))
     -- order seal 14 12
@@ -188,6 +186,8 @@ orderAnswers =
     ∷ ((first (openInputTries pairKey12 byA 12 (replicate 512 0) (replicate 576 0) (replicate 491 0)) ∷ []) is (2 ∷ []))
     -- order open 4 11
     ∷ ((first (openInputTries pairKey12 byA 10 (replicate 511 0) (replicate 575 0) (replicate 492 0)) ∷ []) is (4 ∷ []))
+    -- request 3 has 4 before 12; the program's lines are of neighbours, and 14 stands between these
+    ∷ ((sealNumber pairKey12 byA 10 300 (replicate 493 0) (replicate 576 0) (replicate 511 0) ∷ []) is (4 ∷ []))
     -- none where there is just room enough, and the payload and the page have their greatest length
     ∷ ((sealNumber pairKey12 byA 10 300 (replicate 492 0) (replicate 576 0) (replicate 512 0) ∷ []) is (0 ∷ []))
     ∷ ((first (openInputTries pairKey12 byA 10 (replicate 512 0) (replicate 576 0) (replicate 492 0)) ∷ []) is (0 ∷ []))

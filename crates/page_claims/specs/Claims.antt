@@ -121,7 +121,7 @@ OpenedPageIsASeal = (key₁ key₂ : List ℕ) → AreBytes key₁ → (rounds :
     (take (openedUsed key₁ key₂ rounds page scratch out) (openOutput key₁ key₂ rounds page scratch out)) page
 
 -- ---- the C call's number
--- it is a refusal's number: 1, 2, 4, 11 or 13; or 2⁶³ and more, and then the header's numbers are read from it
+-- it is a refusal's number, 13 at most; or 2⁶³ and more, and then the header's numbers are read from it
 pub record CodeTells (key₁ key₂ : List ℕ) (rounds : ℕ) (page scratch out : List ℕ) : Type 0 where
   pub refused : 0 < openNumber key₁ key₂ rounds page scratch out
       → (openCallCode key₁ key₂ rounds page scratch out ≡ openNumber key₁ key₂ rounds page scratch out)

@@ -17,21 +17,21 @@ use Rattle.histories.specs.Histories.{withdraw, changed}
 use Rattle.histories.specs.Claims.{CallsCount}
 use Rattle.histories.proofs.Claims.{calls-count}
 use Rattle.checking.specs.Checking.{checkNumber}
-use Rattle.revocation.specs.Claims.{OpensNothing, EarlierNeverOpens, RevokedNeverOpens, RevokedInTwoRooms}
-use Rattle.revocation.proofs.Claims.{earlier-never-opens, revoked-never-opens, revoked-in-two-rooms}
+use Rattle.revocation.specs.Claims.{OpensNothing, EarlierNeverOpens, EarlierInTwoRooms, RevokedNeverOpens, RevokedInTwoRooms}
+use Rattle.revocation.proofs.Claims.{earlier-never-opens, earlier-in-two-rooms, revoked-never-opens, revoked-in-two-rooms}
 use Rattle.revocation.proofs.Checks.{stands}
 use Rattle.check_call.specs.CheckCall.{callCode}
-use Rattle.call_claims.specs.Claims.{Refuses, CallsRevokeEarlier, CallsRevoke, CallsRevokeInTwoRooms}
+use Rattle.call_claims.specs.Claims.{Refuses, CallsRevokeEarlier, CallsRevokeEarlierInTwoRooms, CallsRevoke, CallsRevokeInTwoRooms}
 use Rattle.roll_calls.specs.RollCalls.{withdrawCallTries, withdrawCallRoll}
 use Rattle.call_claims.specs.CallHistories.{called}
 use Rattle.call_claims.proofs.Stored.{is-roll, call-holds}
-use Rattle.call_claims.proofs.Claims.{calls-revoke-earlier, calls-revoke, calls-revoke-in-two-rooms}
+use Rattle.call_claims.proofs.Claims.{calls-revoke-earlier, calls-revoke-earlier-in-two-rooms, calls-revoke, calls-revoke-in-two-rooms}
 use Rattle.queue.specs.Queue.{queueTries, queueNumber, queueAnswers, queueOutput}
 use Rattle.queue_call.specs.QueueCall.{callQueueTries, callQueueNumber, callQueueOutput}
 use Rattle.queue_claims.specs.Claims.{QueueInOrder, RefusedQueueKeeps, BytesAreChecks, BytesAreVerdicts, OpensNowhere, QueueAfterWithdrawal}
 use Rattle.queue_claims.specs.Claims.{QueueRevoked, QueueRevokedInTwoRooms, asByte, CallBytesAreChecks, CallIsQueue, CallBytesAreVerdicts}
 use Rattle.queue_claims.specs.Claims.{CallOpensNowhere, CallQueueAfterWithdrawal, CallQueueRevoked, CallQueueRevokedInTwoRooms}
-use Rattle.queue_claims.specs.Claims.{QueueRevokedEarlier, CallQueueRevokedEarlier}
+use Rattle.queue_claims.specs.Claims.{QueueRevokedEarlier, QueueRevokedEarlierInTwoRooms, CallQueueRevokedEarlier, CallQueueRevokedEarlierInTwoRooms}
 use Rattle.queue_claims.proofs.Bytes.{answers, verdict}
 use Rattle.queue_claims.proofs.Calls.{same-queue, roll-long, call-answers, call-verdict}
 
@@ -75,6 +75,11 @@ pub queue-revoked-earlier : QueueRevokedEarlier
 unfolding QueueRevokedEarlier EarlierNeverOpens
 queue-revoked-earlier key rounds roll contractor grant g is hs w =
     nowhere key rounds _ _ (earlier-never-opens key rounds roll contractor grant g is hs w)
+
+pub queue-revoked-earlier-in-two-rooms : QueueRevokedEarlierInTwoRooms
+unfolding QueueRevokedEarlierInTwoRooms EarlierInTwoRooms
+queue-revoked-earlier-in-two-rooms key rounds roll contractor grant g is xs ys zs m w =
+    nowhere key rounds _ _ (earlier-in-two-rooms key rounds roll contractor grant g is xs ys zs m w)
 
 pub queue-revoked : QueueRevoked
 unfolding QueueRevoked RevokedNeverOpens
@@ -132,6 +137,11 @@ pub call-queue-revoked-earlier : CallQueueRevokedEarlier
 unfolding CallQueueRevokedEarlier CallsRevokeEarlier
 call-queue-revoked-earlier key rounds roll small long contractor grant g hs w =
     call-nowhere key rounds _ _ (calls-revoke-earlier key rounds roll small long contractor grant g hs w)
+
+pub call-queue-revoked-earlier-in-two-rooms : CallQueueRevokedEarlierInTwoRooms
+unfolding CallQueueRevokedEarlierInTwoRooms CallsRevokeEarlierInTwoRooms
+call-queue-revoked-earlier-in-two-rooms key rounds roll small long contractor grant g xs ys zs m w =
+    call-nowhere key rounds _ _ (calls-revoke-earlier-in-two-rooms key rounds roll small long contractor grant g xs ys zs m w)
 
 pub call-queue-revoked : CallQueueRevoked
 unfolding CallQueueRevoked CallsRevoke

@@ -83,6 +83,12 @@ QueueRevokedEarlier = (key : List ℕ) (rounds : ℕ) (roll : Roll) (contractor 
     → Earlier key rounds roll contractor grant → IsRoll roll
     → (hs : List Change) → Withdrawn contractor hs roll → OpensNowhere key rounds (rollAfter hs roll) grant
 
+-- for two rooms too, in whatever order their calls arrive, once either has asked for the withdrawal
+unfoldable pub QueueRevokedEarlierInTwoRooms : Type 0
+QueueRevokedEarlierInTwoRooms = (key : List ℕ) (rounds : ℕ) (roll : Roll) (contractor : ℕ) (grant : List ℕ)
+    → Earlier key rounds roll contractor grant → IsRoll roll
+    → (xs ys zs : List Change) → Merge xs ys zs → Withdraws contractor xs ⊎ Withdraws contractor ys → OpensNowhere key rounds (rollAfter zs roll) grant
+
 -- and so what an issue wrote that was not refused
 unfoldable pub QueueRevoked : Type 0
 QueueRevoked = (key : List ℕ) (rounds : ℕ) (roll : Roll) (contractor block right : ℕ) (out : List ℕ)
@@ -90,7 +96,7 @@ QueueRevoked = (key : List ℕ) (rounds : ℕ) (roll : Roll) (contractor block r
     → (hs : List Change) → Withdrawn contractor hs roll
     → OpensNowhere key rounds (rollAfter hs roll) (issuedGrant key rounds roll contractor block right)
 
--- and so for two rooms, in whatever order their calls arrive, once either has asked for the withdrawal
+-- in two rooms too
 unfoldable pub QueueRevokedInTwoRooms : Type 0
 QueueRevokedInTwoRooms = (key : List ℕ) (rounds : ℕ) (roll : Roll) (contractor block right : ℕ) (out : List ℕ)
     → Issued key rounds roll contractor block right out → IsRoll roll
@@ -145,6 +151,12 @@ CallQueueRevokedEarlier = (key : List ℕ) (rounds : ℕ) (roll : List ℕ) → 
     → Earlier key rounds (rollOf roll) contractor grant
     → (hs : List Change) → CallWithdrawn contractor hs roll → CallOpensNowhere key rounds (bytesAfter hs roll) grant
 
+-- for two rooms too, once either has called gordzila_withdraw of the contractor, whatever it answered
+unfoldable pub CallQueueRevokedEarlierInTwoRooms : Type 0
+CallQueueRevokedEarlierInTwoRooms = (key : List ℕ) (rounds : ℕ) (roll : List ℕ) → AreBytes roll → length roll ≡ rollLength
+    → (contractor : ℕ) (grant : List ℕ) → Earlier key rounds (rollOf roll) contractor grant
+    → (xs ys zs : List Change) → Merge xs ys zs → Withdraws contractor xs ⊎ Withdraws contractor ys → CallOpensNowhere key rounds (bytesAfter zs roll) grant
+
 -- and so what gordzila_issue wrote, where it answered 0
 unfoldable pub CallQueueRevoked : Type 0
 CallQueueRevoked = (key : List ℕ) (rounds : ℕ) (roll : List ℕ) (contractor block right : ℕ) (out : List ℕ)
@@ -152,7 +164,7 @@ CallQueueRevoked = (key : List ℕ) (rounds : ℕ) (roll : List ℕ) (contractor
     → (hs : List Change) → CallWithdrawn contractor hs roll
     → CallOpensNowhere key rounds (bytesAfter hs roll) (grantGiven key rounds roll contractor block right out)
 
--- and so for two rooms, in whatever order their calls arrive, once either has called gordzila_withdraw of the contractor, whatever it answered
+-- in two rooms too
 unfoldable pub CallQueueRevokedInTwoRooms : Type 0
 CallQueueRevokedInTwoRooms = (key : List ℕ) (rounds : ℕ) (roll : List ℕ) (contractor block right : ℕ) (out : List ℕ)
     → CallIssued key rounds roll contractor block right out

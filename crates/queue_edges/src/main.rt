@@ -46,8 +46,10 @@ fn kind(n: usize) -> [u8; 12] {
         plain(3, 1, 300, 2)
     } else if n == 6 {
         plain(3, 3, 300, 2)
-    } else {
+    } else if n < 15 {
         kind_of_reader(n)
+    } else {
+        kind_of_block(n)
     }
 }
 
@@ -67,10 +69,8 @@ fn kind_of_reader(n: usize) -> [u8; 12] {
         plain(7, 7, 300, 3)
     } else if n == 13 {
         plain(11, 11, 300, 2)
-    } else if n == 14 {
-        plain(5, 3, 300, 2)
     } else {
-        kind_of_block(n)
+        plain(5, 3, 300, 2)
     }
 }
 

@@ -21,9 +21,9 @@ use Rattle.issuing.specs.Issuing.{issueTries}
 use Rattle.checking.specs.Checking.{entryNow, checkTries}
 use Rattle.revocation.specs.Claims.{Issued, OpensExactlyWhen, EachRefusalFirst, IssuedOpens, OverwritingOpensReading, ReadingDoesNotOverwrite}
 use Rattle.revocation.specs.Claims.{OnlyOverwritingOverwrites, TenOnlyForOverwriting, RevokedNeverOpens, RevokedInTwoRooms, RevocationHappens}
-use Rattle.revocation.specs.Claims.{IssuedIsEarlier, EarlierNeverOpens, OthersUndisturbed, NumbersTellVerdicts, roll7, calls7}
+use Rattle.revocation.specs.Claims.{IssuedIsEarlier, EarlierNeverOpens, EarlierInTwoRooms, OthersUndisturbed, NumbersTellVerdicts, roll7, calls7}
 use Rattle.revocation.proofs.Checks.{opening, accepted}
-use Rattle.revocation.proofs.Issued.{is-earlier, earlier-revoked, checks, revoked, revoked-asked}
+use Rattle.revocation.proofs.Issued.{is-earlier, earlier-revoked, earlier-asked, checks, revoked, revoked-asked}
 use Rattle.revocation.proofs.Looks.{looks, overwrites, ten}
 use Rattle.revocation.proofs.Others.{same-check, verdicts-told}
 
@@ -83,6 +83,11 @@ issued-is-earlier = is-earlier
 pub earlier-never-opens : EarlierNeverOpens
 unfolding EarlierNeverOpens
 earlier-never-opens = earlier-revoked
+
+pub earlier-in-two-rooms : EarlierInTwoRooms
+unfolding EarlierInTwoRooms
+earlier-in-two-rooms key rounds roll contractor grant g z xs ys zs m w =
+    earlier-asked key rounds roll contractor grant g z zs (elim w [ inl l ↦ left-seen m l | inr r ↦ right-seen m r ])
 
 pub revoked-never-opens : RevokedNeverOpens
 unfolding RevokedNeverOpens

@@ -1,6 +1,6 @@
 -- Issued grants: what they decipher to, that they open, and that none opens after its contractor's withdrawal.
 use mathlib.Core.Path.{_≡_, refl, sym, ap, _∙_}
-use mathlib.Core.Bool.{true, false}
+use mathlib.Core.Bool.{Bool, true, false, false≢true}
 use mathlib.Core.List.{List, [], _++_}
 use Prim.Native.Nat.{ℕ, zero, suc, _<_}
 use native.Mathlib.Omega.{arith}
@@ -16,14 +16,17 @@ use Rattle.cipher.specs.Cipher.{cipherBlock}
 use Rattle.cipher.specs.Claims.{DeciphersWhatWasEnciphered}
 use Rattle.cipher.proofs.Claims.{deciphers-what-was-enciphered}
 use Rattle.roll.specs.declared.Roll.{Roll}
-use Rattle.roll.specs.Roll.{countOf, entryOf}
+use Rattle.roll.specs.Roll.{isContractor, countOf, entryOf, inStanding}
 use Rattle.roll.proofs.Contractors.{Contractor, a-contractor, a-standing}
 use Rattle.histories.specs.Histories.{Change, rollAfter, Withdrawn, Withdraws, IsRoll}
+use Rattle.histories.specs.Claims.{CountsNeverFall}
 use Rattle.histories.proofs.Counts.{counted-up, asked-counts}
+use Rattle.histories.proofs.Claims.{counts-never-fall}
 use Rattle.rights.specs.Rights.{isRight, covers}
 use Rattle.grant.specs.Grants.{plainGrant, contractorIn, countIn, sizeBlockIn}
 use Rattle.size_blocks.specs.SizeBlocks.{isSizeBlock}
 use Rattle.size_blocks.proofs.SizeBlocks.{is-size-block, zero-is-none, other-than-zero}
+use Rattle.grant.proofs.Tests.{a-grant}
 use Rattle.issuing.specs.Issuing.{issueTries, issuedGrant}
 use Rattle.issuing.proofs.Passed.{WantedPassed, wanted-passed}
 use Rattle.judging.specs.Judging.{inputTries, askedTries, standingTries, plainTries}
@@ -86,6 +89,26 @@ module _ (key : List ℕ) (rounds : ℕ) (roll : Roll) (contractor : ℕ) (grant
 
   pub earlier-revoked : IsRoll roll → (hs : List Change) → Withdrawn contractor hs roll → OpensNothing key rounds (rollAfter hs roll) grant
   earlier-revoked z hs w = risen (rollAfter hs roll) (counted-up hs roll z contractor w)
+
+  -- where the withdrawal was asked for, the count has risen if the contractor was in standing. If not, a grant that opens would have the count that they
+  -- had, since counts never fall, and be from no standing
+  pub earlier-asked : IsRoll roll → (hs : List Change) → Withdraws contractor hs → OpensNothing key rounds (rollAfter hs roll) grant
+  unfolding CountsNeverFall
+  earlier-asked z hs w b r e = by (inStanding (countOf roll contractor)) refl
+    where
+      by : (s : Bool) → inStanding (countOf roll contractor) ≡ s → ⊥
+      by true s =
+          let later = rollAfter hs roll in
+          let whole = a-grant (openedGrant key rounds grant) (passed key rounds later grant b r e .1 .whole) in
+          risen later (asked-counts hs roll z contractor (sym (ap isContractor (g .names)) ∙ whole .contractor) s w) b r e
+      by false s =
+          let later = rollAfter hs roll in
+          let p = openedGrant key rounds grant in
+          let t = passed key rounds later grant b r e .1 in
+          let same = eqb-true (countIn p) (countOf later (contractorIn p)) (t .same-count) ∙ ap (countOf later) (g .names) in
+          let stayed : countOf roll contractor ≡ countOf later contractor =
+          omega (arith, counts-never-fall hs roll contractor, g .not-above, same) in
+          false≢true (sym s ∙ ap inStanding stayed ∙ sym (ap (λ (c : ℕ). inStanding (countOf later c)) (g .names)) ∙ t .stands)
 
 module _ (key : List ℕ) (rounds : ℕ) (roll : Roll) (contractor block right : ℕ) (out : List ℕ)
     (i : Issued key rounds roll contractor block right out) where
@@ -191,5 +214,4 @@ module _ (key : List ℕ) (rounds : ℕ) (roll : Roll) (contractor block right :
 
   pub revoked-asked : IsRoll roll → (hs : List Change) → Withdraws contractor hs
       → OpensNothing key rounds (rollAfter hs roll) (issuedGrant key rounds roll contractor block right)
-  revoked-asked z hs w =
-      risen key rounds roll contractor g earlier (rollAfter hs roll) (asked-counts hs roll z contractor (wanted .known) (wanted .stands) w)
+  revoked-asked = earlier-asked key rounds roll contractor g earlier

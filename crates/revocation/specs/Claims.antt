@@ -145,6 +145,13 @@ EarlierNeverOpens = (key : List ℕ) (rounds : ℕ) (roll : Roll) (contractor : 
     → Earlier key rounds roll contractor grant → IsRoll roll
     → (hs : List Change) → Withdrawn contractor hs roll → OpensNothing key rounds (rollAfter hs roll) grant
 
+-- and for two rooms that share the roll, in whatever order their calls arrive: once either has asked for the withdrawal, whether its call was accepted
+-- or not
+unfoldable pub EarlierInTwoRooms : Type 0
+EarlierInTwoRooms = (key : List ℕ) (rounds : ℕ) (roll : Roll) (contractor : ℕ) (grant : List ℕ)
+    → Earlier key rounds roll contractor grant → IsRoll roll
+    → (xs ys zs : List Change) → Merge xs ys zs → Withdraws contractor xs ⊎ Withdraws contractor ys → OpensNothing key rounds (rollAfter zs roll) grant
+
 -- and so for what an issue wrote that was not refused
 unfoldable pub RevokedNeverOpens : Type 0
 RevokedNeverOpens = (key : List ℕ) (rounds : ℕ) (roll : Roll) (contractor block right : ℕ) (out : List ℕ)
@@ -152,8 +159,7 @@ RevokedNeverOpens = (key : List ℕ) (rounds : ℕ) (roll : Roll) (contractor bl
     → (hs : List Change) → Withdrawn contractor hs roll
     → OpensNothing key rounds (rollAfter hs roll) (issuedGrant key rounds roll contractor block right)
 
--- and so for two rooms that share the roll, in whatever order their calls arrive: once either has asked for the withdrawal, whether its call was
--- the one that was accepted or not
+-- in two rooms too
 unfoldable pub RevokedInTwoRooms : Type 0
 RevokedInTwoRooms = (key : List ℕ) (rounds : ℕ) (roll : Roll) (contractor block right : ℕ) (out : List ℕ)
     → Issued key rounds roll contractor block right out → IsRoll roll

@@ -113,8 +113,8 @@ pub fn issue(
 /// asked for. Overwriting asked of a reading grant is [`Reason::OtherRight`]; asked of an
 /// overwriting grant whose contractor may only read, it is [`Reason::AboveHighest`].
 ///
-/// A grant that was issued for size block 0, before version 0.7, is one for another size
-/// block than any that can be asked for here.
+/// A grant that was issued for size block 0, before version 0.7, opens nothing: it is
+/// [`Reason::OtherBlock`], whichever is asked for, where no other reason comes first.
 ///
 /// ```
 /// use gordzila::{check, issue, Opened, Reason, Right, Roll, SizeBlock};

@@ -216,7 +216,7 @@ fn the_header_tells_of_size_block_0() {
     }
 }
 
-/// The example says what to do about it.
+/// The example has words for it.
 #[test]
 fn the_example_in_c_has_words_for_14() {
     let example = repository_file("hosts/c/plotter.c");
