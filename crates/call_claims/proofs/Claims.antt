@@ -14,7 +14,7 @@ use Rattle.refusal.proofs.Answers.{starts}
 use Rattle.basics.specs.Bytes.{AreBytes}
 use Rattle.cipher.specs.Cipher.{cipherBlock}
 use Rattle.roll.specs.declared.Roll.{Roll}
-use Rattle.roll.specs.Roll.{emptyRoll, countOf, figureOf, inStanding, withEntry}
+use Rattle.roll.specs.Roll.{emptyRoll, countOf, figureOf, entryOf, inStanding, withEntry}
 use Rattle.roll_changes.specs.Changes.{enteredRoll}
 use Rattle.roll_bytes.specs.RollBytes.{countsOf, rollLength, rollOf, countsBytes, rollBytes}
 use Rattle.roll_bytes.specs.Claims.{BytesTellRoll}
@@ -27,6 +27,7 @@ use Rattle.size_blocks.specs.SizeBlocks.{isSizeBlock}
 use Rattle.rights.specs.Rights.{isRight}
 use Rattle.rights.proofs.Rights.{within-two}
 use Rattle.issuing.specs.Issuing.{issueTries, issuedGrant}
+use Rattle.issuing.proofs.Passed.{wanted-passes}
 use Rattle.checking.specs.Checking.{checkNumber}
 use Rattle.revocation.specs.Claims.{Issued, OpensNothing, IssuedOpens, EarlierNeverOpens}
 use Rattle.revocation.specs.Claims.{EarlierInTwoRooms, RevokedNeverOpens, RevokedInTwoRooms, roll7, calls7}
@@ -176,8 +177,17 @@ issued-7 right q = record {
   key-bytes = zeros-small (lit< tt) 12;
   roll-bytes = holds-7 .small;
   block-small = lit< tt;
-  number = none-given (issueCallTries (replicate 12 0) 10 bytesWith7 7 300 right (replicate 12 0))
-      (refl, (refl, (refl, (refl, (refl, (q, (refl, (refl, (within-two right q, tt)))))))));
+  number = none-given (issueCallTries (replicate 12 0) 10 bytesWith7 7 300 right (replicate 12 0)) (
+    refl,
+    (
+      refl,
+      (
+        refl,
+        wanted-passes 12 7 300 right (entryOf (rollOf bytesWith7) 7)
+            record { fits = refl; known = refl; asked = q; some-block = refl; stands = refl; within = within-two right q },
+      ),
+    ),
+  );
 }
 
 pub call-answers-to-7 : CallAnswersTo7

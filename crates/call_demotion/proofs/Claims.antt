@@ -4,7 +4,7 @@ use mathlib.Core.Bool.{Bool, true, _&&_}
 use mathlib.Core.List.{List, [], _∷_}
 use Prim.Native.Nat.{ℕ, _<_}
 use native.Mathlib.Omega.{arith}
-use lib.Dec.{leb}
+use lib.Dec.{eqb, leb}
 use lib.ListN.{length, getD, replicate}
 use lib.Seq.{take-all}
 use borrow.Author.Tests.{eq-eqb}
@@ -31,6 +31,7 @@ use Rattle.roll_calls.specs.RollCalls.{enterCallNumber, enterCallRoll, changeCa
 use Rattle.call_claims.specs.CallHistories.{called, bytesAfter, CallWithdrawn, later, CallRaised, by-entering, raised-later}
 use Rattle.check_call.specs.CheckCall.{callCode}
 use Rattle.queue_parts.specs.QueueParts.{queueLength, grantsIn}
+use Rattle.queue_parts.proofs.Passed.{queue-passes}
 use Rattle.queue_call.specs.QueueCall.{callQueueTries, callQueueOutput}
 use Rattle.call_claims.specs.Claims.{Holds, bytesWith7}
 use Rattle.call_claims.proofs.Stored.{passes-roll, call-holds}
@@ -161,7 +162,10 @@ alone roll long right code q e =
     let l = ap₂ (λ (a : Bool) (n : ℕ). a && queueLength n) (eq-eqb (length roll) rollLength long) twelve-7 in
     let room = ap (λ (n : ℕ). leb (grantsIn n) 1) twelve-7 in
     let some = is-size-block 300 (λ e. omega (arith, e)) in
-    let z = none-given (callQueueTries key 10 roll grantTo7 300 right out) (refl, (refl, (l, (room, (q, (some, tt)))))) in
+    let n = length grantTo7 in
+    let z = none-given (callQueueTries key 10 roll grantTo7 300 right out)
+    (queue-passes 12 10 (eqb (length roll) rollLength && queueLength n) n 1 300 right
+    record { key-length = refl; round-count = refl; long = l; fits = room; asked = q; some-block = some }) in
     let h : 0 < grantsIn (length grantTo7) = omega (arith, ap grantsIn twelve-7) in
     call-answers key 10 roll grantTo7 300 right out z .each 0 h
     ∙ ap asByte (ap (λ (g : List ℕ). callCode key 10 roll g 300 right) (take-all 12 grantTo7 (omega (arith, twelve-7))) ∙ e)

@@ -26,7 +26,7 @@ use Rattle.settings.specs.Settings.{settingsTries}
 use Rattle.key_lists.specs.declared.Direction.the-variants.{Enciphering}
 use Rattle.cipher.specs.Cipher.{cipherBlock}
 use Rattle.issuing.specs.Issuing.{issueTries, issueNumber, issuedGrant, issueOutput}
-use Rattle.issuing.proofs.Passed.{WantedPassed, wanted-passed}
+use Rattle.issuing.proofs.Passed.{WantedPassed, wanted-passed, wanted-passes}
 use Rattle.judging.specs.Judging.{inputTries, askedTries}
 use Rattle.judging.proofs.Passed.{input-passed, input-passes}
 use Rattle.checking.specs.Checking.{openedGrant, checkTries, checkNumber, checkContractor}
@@ -168,8 +168,14 @@ module _ (key : List ℕ) (rounds : ℕ) (roll : Roll) (c block right : ℕ) (ou
       let a = above-highest right (figureOf roll c) (t .1 .1 .0) (g .1) in
       record {
         asked = a .0;
-        reads = none-given (issueTries key rounds roll c block 1 out)
-            (h .0, (h .1 .0, (t .0, (t .1 .0, (refl, (s .0, (s .1 .0, (within-reading _, tt))))))));
+        reads = none-given (issueTries key rounds roll c block 1 out) (
+          h .0,
+          (
+            h .1 .0,
+            wanted-passes (length out) c block 1 (entryOf roll c)
+                record { fits = t .0; known = t .1 .0; asked = refl; some-block = s .0; stands = s .1 .0; within = within-reading _ },
+          ),
+        );
         low = a .1;
       }
 

@@ -4,7 +4,7 @@ use mathlib.Core.Bool.{true}
 use Prim.Native.Nat.{ℕ}
 use lib.ListN.{length, replicate}
 use Rattle.refusal.specs.Tries.{first, answered}
-use Rattle.roll.specs.Roll.{emptyRoll, countOf, figureOf, inStanding, withEntry}
+use Rattle.roll.specs.Roll.{emptyRoll, countOf, figureOf, entryOf, inStanding, withEntry}
 use Rattle.roll_changes.specs.Changes.{enterTries, enteredRoll, withdrawTries, changeTries, changedRoll}
 use Rattle.histories.specs.Histories.{enter, changed, Withdrawn, here, later, now-asked, IsRoll}
 use Rattle.histories.specs.Histories as H
@@ -18,6 +18,7 @@ use Rattle.size_blocks.specs.SizeBlocks.{isSizeBlock}
 use Rattle.rights.specs.Rights.{isRight}
 use Rattle.rights.proofs.Rights.{within-two}
 use Rattle.issuing.specs.Issuing.{issueTries}
+use Rattle.issuing.proofs.Passed.{wanted-passes}
 use Rattle.checking.specs.Checking.{entryNow, checkTries}
 use Rattle.revocation.specs.Claims.{Issued, OpensExactlyWhen, EachRefusalFirst, IssuedOpens, OverwritingOpensReading, ReadingDoesNotOverwrite}
 use Rattle.revocation.specs.Claims.{OnlyOverwritingOverwrites, TenOnlyForOverwriting, RevokedNeverOpens, RevokedInTwoRooms, RevocationHappens}
@@ -54,7 +55,14 @@ issued-7 right q =
     record {
       key-bytes = zeros-small (lit< tt) 12;
       block-small = lit< tt;
-      number = none-given tries (refl, (refl, (refl, (refl, (q, (refl, (refl, (within-two right q, tt))))))));
+      number = none-given tries (
+        refl,
+        (
+          refl,
+          wanted-passes 12 7 300 right (entryOf roll7 7)
+              record { fits = refl; known = refl; asked = q; some-block = refl; stands = refl; within = within-two right q },
+        ),
+      );
     }
 
 pub overwriting-opens-reading : OverwritingOpensReading
