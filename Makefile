@@ -1,49 +1,27 @@
-# make help             this list
-# make run              prove and build the library, and run the main job: a plotter's day
-# make test             every test; its last line is the prover's own 'N passed, 0 failed'
-# make library          prove and build the static library, where it is not built already
-# make tool             build the command-line tool, its manual page and its completions, to target/tool/
-# make install          the library and the tool to PREFIX (/usr/local), or to be moved there from DESTDIR; after make tool
-# make install-library  header, library and pkg-config file alone; after make library
-# make uninstall        remove what make install puts below PREFIX
-# make clean            remove what was built, with all proofs: target/, and those of reference/, hosts/ and bench/
-# make reading          write the one page to read, target/reading.md: definitions, contracts of the public calls, claims
-# make vectors          write anew what the test programs read and have to print, from the independent program and the requirements
-# make checks           those tests that look at sources and documents alone
-# make reference        the tests of the independent program
-# make hosts            the static library and the programs over it, built and run
-# make bench            times, side by side with plain C, the independent program and other ciphers; no test
-# make stack            how much stack each call takes, painted; no test
-# make instructions     how many instructions the engine, a list, a walk, a stage and the calls on pages take, and the diffusion on small processors; no test
+# make run    prove and build the library, and run the main job: a plotter's day
+# make test   every test; its last line is the prover's own 'N passed, 0 failed'
+# make reading    write the one page to read, target/reading.md: definitions, contracts of the public calls, claims
+# make vectors    write anew what the test programs read and have to print, from the independent program and the requirements
+# make library    prove and build the static library
+# make install    header, library and pkg-config file to PREFIX (/usr/local), after make library
+# make hosts  the static library and the programs over it, built and run
+# make bench  times, side by side with plain C, the independent program and other ciphers; no test
+# make stack  how much stack the checks of grants and the calls on the roll and on pages take, painted; no test
+# make instructions    how many instructions the engine, a list, a walk, a stage and the calls on pages take, and the diffusion on small processors; no test
 
-.PHONY: help run test library tool install install-library uninstall clean reading vectors checks reference hosts bench stack instructions
+.PHONY: run library install test checks reading vectors reference hosts bench stack instructions
 
 PREFIX ?= /usr/local
-export PREFIX DESTDIR
-
-help:
-	@sed -n 's/^# \(make .*\)/\1/p' Makefile
 
 run:
-	@tools/run
+	tools/run
 
 library:
-	@tools/library
-
-tool: library
-	@tools/tool
+	rt check capi
+	rt staticlib capi
 
 install:
-	@tools/install
-
-install-library:
-	@tools/install library
-
-uninstall:
-	@tools/uninstall
-
-clean:
-	@tools/clean
+	tools/install $(PREFIX)
 
 test:
 	tools/setup
@@ -55,8 +33,6 @@ test:
 
 # Checks of sources and documents that need neither the prover nor the independent program.
 checks:
-	tools/reasons check
-	tools/reasons --shams
 	tools/check-docs
 	tools/check-docs --shams
 	tools/reading --check
@@ -82,7 +58,7 @@ hosts:
 bench: library
 	cd bench && cargo run --release --offline
 
-# The stack of each call; make test compares it with the header.
+# The stack of the checks of grants and of the calls on the roll and on pages.
 stack: library
 	gcc -O2 -Iinclude bench/stack.c target/staticlib/libcapi.a -o target/stack
 	target/stack

@@ -26,536 +26,6 @@
  *    them lent: rooms or threads that share a roll make their calls on it one after the other.
  *  - Their time depends on the key and the data: they are not made to resist an observer of time.
  *
- * Memory, of this version's archive on x86-64; `make test` measures the figures anew:
- *  - Code and tables of all calls together: 16773 bytes. No heap, and no memory of its own that changes.
- *  - Stack: the most that a call took, of the outcomes tried, in bytes, with the return address and without the arguments. It is painted
- *    (`make stack`):
- *      check 656, check_queue 672, empty_roll 40, enter 32, change_right 8, withdraw 8, issue 672, seal_page 512, open_page 592,
- *      encipher 736, decipher 736, prepare_enciphering 288, prepare_deciphering 288, run 172, stage 224, subkey 240, holder_make 72,
- *      holder_forward 416, holder_back 400, holder_walk 448, holder_subkey 208.
- *    To be added once, and not measured: in a program that is linked dynamically and looks functions up when they are first called, as is
- *    usual, the first call that needs memcpy or memset makes the loader look them up, which takes some thousand bytes of stack more.
- *    `-Wl,-z,now`, which the pkg-config file has, does that when the program starts.
- *  - What is left: the calls do not clean their stack. See gordzila_wipe_stack, below.
- *
- * The header is for C99 or newer and for C++. What changed since earlier versions, for hosts that were written for them, stands at its end.
- */
-#ifndef GORDZILA_H
-#define GORDZILA_H
-
-#include <stddef.h>
-#include <stdint.h>
-
-/* The version, as a text and as a number to compare: 10,000 times the first part, plus 100 times the second, plus the third. */
-#define GORDZILA_VERSION "0.8.0"
-#define GORDZILA_VERSION_NUMBER 800
-
-/* A compiler that knows how warns where the answer of a call is dropped: a withdrawal that was refused has to be seen. */
-#if (defined(__cplusplus) && __cplusplus >= 201703L) || (defined(__STDC_VERSION__) && __STDC_VERSION__ >= 202311L)
-#define GORDZILA_MUST_USE [[nodiscard]]
-#elif defined(__GNUC__)
-#define GORDZILA_MUST_USE __attribute__((warn_unused_result))
-#else
-#define GORDZILA_MUST_USE
-#endif
-
-#ifdef __cplusplus
-extern "C" {
-#endif
-
-/* From here on written by tools/reasons, from hosts/reasons.txt. */
-/* Reasons for which a call refuses. */
-enum {
-    /* found in the input */
-    GORDZILA_KEY_LENGTH = 1,        /* key not of 12, 18 or 24 bytes, or a page's two keys equal or of unequal lengths */
-    GORDZILA_ROUND_COUNT = 2,       /* round count not one for the key: 10 or 11 with 12 bytes, 14 to 17 with 18, 18 to 23 with 24 */
-    GORDZILA_INPUT_LENGTH = 3,      /* block or grant not of 12 bytes, roll not of 600, or queue not of 0 to 64 grants of 12 bytes */
-    GORDZILA_OUTPUT_TOO_SHORT = 4,  /* too little room for the output, the answers or the scratch */
-    GORDZILA_STAGE_OR_LIST = 5,     /* stage number not below the key's length in bytes, or subkey list not of 11 to 24 subkeys */
-    GORDZILA_CONTRACTOR = 6,        /* contractor number not 1 to 200 */
-    GORDZILA_RIGHT = 7,             /* right neither 1 (reading) nor 2 (overwriting) */
-    GORDZILA_NOT_A_GRANT = 8,       /* not a grant under this key and round count: wrong key, wrong round count, or damaged */
-    GORDZILA_OTHER_BLOCK = 9,       /* grant for another size block */
-    GORDZILA_OTHER_RIGHT = 10,      /* overwriting asked of a reading grant */
-    GORDZILA_NOT_A_PAGE = 11,       /* not a page: not of 512 bytes, a header that no page has, or unused bytes that are not zero */
-    GORDZILA_PAYLOAD_TOO_LONG = 12, /* payload over 492 bytes */
-    GORDZILA_CHECK_DIFFERS = 13,    /* the page's check differs: page changed, or sealed with another second key or round count */
-    GORDZILA_BLOCK_ZERO = 14,       /* size block number 0, as a blank form sends it */
-    /* found in the state */
-    GORDZILA_NOT_IN_STANDING = 20,  /* contractor not in standing: never entered, or withdrawn */
-    GORDZILA_IN_STANDING = 21,      /* contractor in standing already */
-    GORDZILA_COUNT_SPENT = 22,      /* contractor's count used up, at 65,534 or 65,535: they cannot be entered again */
-    GORDZILA_OTHER_COUNT = 23,      /* grant from an earlier standing */
-    GORDZILA_BROKEN_HOLDER = 24,    /* not a whole key holder: not of 26 bytes, or with a key length, stage number or unused bytes that none has */
-    GORDZILA_ABOVE_HIGHEST = 25     /* contractor may only read: overwriting is above their highest right */
-};
-
-/* Of a reason's number: its text. Never null: a number that is no reason, as 0 is none, has words that say so. */
-static inline const char *gordzila_reason_text(uint32_t reason) {
-    switch (reason) {
-    case GORDZILA_KEY_LENGTH: return "key not of 12, 18 or 24 bytes, or a page's two keys equal or of unequal lengths";
-    case GORDZILA_ROUND_COUNT: return "round count not one for the key: 10 or 11 with 12 bytes, 14 to 17 with 18, 18 to 23 with 24";
-    case GORDZILA_INPUT_LENGTH: return "block or grant not of 12 bytes, roll not of 600, or queue not of 0 to 64 grants of 12 bytes";
-    case GORDZILA_OUTPUT_TOO_SHORT: return "too little room for the output, the answers or the scratch";
-    case GORDZILA_STAGE_OR_LIST: return "stage number not below the key's length in bytes, or subkey list not of 11 to 24 subkeys";
-    case GORDZILA_CONTRACTOR: return "contractor number not 1 to 200";
-    case GORDZILA_RIGHT: return "right neither 1 (reading) nor 2 (overwriting)";
-    case GORDZILA_NOT_A_GRANT: return "not a grant under this key and round count: wrong key, wrong round count, or damaged";
-    case GORDZILA_OTHER_BLOCK: return "grant for another size block";
-    case GORDZILA_OTHER_RIGHT: return "overwriting asked of a reading grant";
-    case GORDZILA_NOT_A_PAGE: return "not a page: not of 512 bytes, a header that no page has, or unused bytes that are not zero";
-    case GORDZILA_PAYLOAD_TOO_LONG: return "payload over 492 bytes";
-    case GORDZILA_CHECK_DIFFERS: return "the page's check differs: page changed, or sealed with another second key or round count";
-    case GORDZILA_BLOCK_ZERO: return "size block number 0, as a blank form sends it";
-    case GORDZILA_NOT_IN_STANDING: return "contractor not in standing: never entered, or withdrawn";
-    case GORDZILA_IN_STANDING: return "contractor in standing already";
-    case GORDZILA_COUNT_SPENT: return "contractor's count used up, at 65,534 or 65,535: they cannot be entered again";
-    case GORDZILA_OTHER_COUNT: return "grant from an earlier standing";
-    case GORDZILA_BROKEN_HOLDER: return "not a whole key holder: not of 26 bytes, or with a key length, stage number or unused bytes that none has";
-    case GORDZILA_ABOVE_HIGHEST: return "contractor may only read: overwriting is above their highest right";
-    default: return "no reason has this number";
-    }
-}
-
-/* And what to do about it. Never null: a number that is no reason, as 0 is none, has words that say so. */
-static inline const char *gordzila_reason_remedy(uint32_t reason) {
-    switch (reason) {
-    case GORDZILA_KEY_LENGTH: return "take a key of 12, 18 or 24 bytes; for pages, two different keys of one length";
-    case GORDZILA_ROUND_COUNT: return "take the round count that was agreed on with the key";
-    case GORDZILA_INPUT_LENGTH: return "see that nothing is cut off or added; convert a roll of 400 bytes, from before 0.6; split a pile of over 64 grants";
-    case GORDZILA_OUTPUT_TOO_SHORT: return "lend as many bytes as the header says at the call";
-    case GORDZILA_STAGE_OR_LIST: return "count stages from 0; hand over a subkey list as it was prepared";
-    case GORDZILA_CONTRACTOR: return "correct the number";
-    case GORDZILA_RIGHT: return "ask for one of the two";
-    case GORDZILA_NOT_A_GRANT: return "compare key and round count with those that it was issued with; if they are right, have a grant issued anew";
-    case GORDZILA_OTHER_BLOCK: return "ask for the size block that it was issued for, or have a grant issued for this one";
-    case GORDZILA_OTHER_RIGHT: return "ask for reading, or have an overwriting grant issued";
-    case GORDZILA_NOT_A_PAGE: return "see that all 512 bytes are there as they were sealed, and that the first key is the one that they were sealed with";
-    case GORDZILA_PAYLOAD_TOO_LONG: return "seal it in several pages";
-    case GORDZILA_CHECK_DIFFERS: return "compare second key and round count with those used to seal; if these are right, it was changed: take another copy";
-    case GORDZILA_BLOCK_ZERO: return "have the number filled in and ask again; nothing is said of the grant, so keep it";
-    case GORDZILA_NOT_IN_STANDING: return "if they are to work for the maker, enter them and issue new grants; those from before a withdrawal stay shut";
-    case GORDZILA_IN_STANDING: return "nothing has to be done; to change what they may do, change their right";
-    case GORDZILA_COUNT_SPENT: return "give them another contractor number";
-    case GORDZILA_OTHER_COUNT: return "have a new grant issued; if the grant is newer than the roll, this roll is an old copy: get the one that is in use";
-    case GORDZILA_BROKEN_HOLDER: return "make a holder of the key anew";
-    case GORDZILA_ABOVE_HIGHEST: return "ask for reading, or raise the contractor if they are to overwrite";
-    default: return "no reason has this number";
-    }
-}
-/* Up to here. */
-
-/*
- * Rights, as they stand in a grant, as they are asked for, and as a contractor's highest right is given. A reading grant opens its size
- * block for reading and not for overwriting; an overwriting grant opens it for both, or for reading alone where its contractor may only
- * read.
- */
-enum { GORDZILA_READING = 1, GORDZILA_OVERWRITING = 2 };
-
-/* Lengths in bytes. */
-enum { GORDZILA_BLOCK_BYTES = 12, GORDZILA_GRANT_BYTES = 12 };
-enum { GORDZILA_ROLL_BYTES = 600, GORDZILA_ROLL_COUNTS_BYTES = 400 };
-enum { GORDZILA_STAGE_BYTES = 24, GORDZILA_SUBKEY_BYTES = 12, GORDZILA_LONGEST_LIST_BYTES = 288 };
-enum { GORDZILA_HOLDER_BYTES = 26 };
-enum { GORDZILA_PAGE_BYTES = 512, GORDZILA_PAYLOAD_BYTES = 492, GORDZILA_SCRATCH_BYTES = 576 };
-
-/* The longest queue, in grants and in bytes. */
-enum { GORDZILA_QUEUE_MOST_GRANTS = 64, GORDZILA_LONGEST_QUEUE_BYTES = 768 };
-
-/*
- * The roll: GORDZILA_ROLL_BYTES bytes that the host keeps, with an entry for each of the contractors 1 to 200, which is a count and a
- * highest right. Any such bytes are a roll.
- *
- * Bytes 0 to 399, GORDZILA_ROLL_COUNTS_BYTES in all, are the counts, two bytes each, big end first. A contractor is in standing exactly
- * when their count is odd and below 65,535.
- *
- * Bytes 400 to 599 are the highest rights, one byte each, so that contractor n has byte 399 + n; gordzila_highest_right reads it. 2
- * means that the contractor, while in standing, may be issued grants for overwriting and that these overwrite. Every other figure means
- * reading only: 0, 1, 3 and 255 alike. The calls write 1 and 2, and any other figure stays until a call that does not refuse enters or
- * withdraws that contractor, or changes their right.
- */
-
-/*
- * Checks a grant for one size block and one right. A reading grant opens its size block where reading is asked for, an
- * overwriting grant where reading is, and where overwriting is if that is its contractor's highest right on the roll.
- *
- * Beware: the answer is never 0, and so `if (gordzila_check(...))` lets everyone in, a refusal too. Ask gordzila_may_read or
- * gordzila_may_overwrite, below, which are shorter to write; or hand the answer to gordzila_opens.
- *
- * Returns the number of the first of these reasons that holds: 1, 2, 3 (grant or roll), 7, 14, 8, 9, 10, 20, 23, 25. Otherwise the
- * grant opens the size block, and the answer is 1,000 times the right asked for plus the contractor: 1001 to 1200 for reading,
- * 2001 to 2200 for overwriting. The right in the answer is the one asked for, and not the grant's: an overwriting grant that is
- * asked for reading answers 1001 to 1200. 25 too is about the right asked for: the overwriting grant of a contractor who may only read
- * opens for reading. And 14 is about the size block asked for: it says that this is 0, and nothing of the grant. A grant that was issued
- * for size block 0, before 0.7.0, opens nothing: asked for 0 it is 14, and asked for another size block 9, where no reason comes before
- * these.
- *
- * 8 is given where the deciphered bytes do not end in the mark, 47 52 44, or name no contractor or no right; 23 where the count in the grant is
- * not the contractor's count on the roll. As a rule that is a grant from an earlier standing; on an old copy of the roll it may be one from a
- * later standing.
- */
-GORDZILA_MUST_USE
-uint32_t gordzila_check(const uint8_t *key, size_t key_length, uint32_t rounds, const uint8_t *roll, size_t roll_length,
-                        const uint8_t *grant, size_t grant_length, uint32_t size_block, uint32_t right);
-
-/*
- * Of an answer of gordzila_check: whether the grant opens; the reason why it does not, 0 where it opens; and where it opens the right
- * asked for and the contractor, 0 where it does not.
- */
-GORDZILA_MUST_USE
-static inline int gordzila_opens(uint32_t answer) { return answer >= 1000; }
-static inline uint32_t gordzila_refusal(uint32_t answer) { return gordzila_opens(answer) ? 0 : answer; }
-static inline uint32_t gordzila_answered_right(uint32_t answer) { return answer / 1000; }
-static inline uint32_t gordzila_answered_contractor(uint32_t answer) { return gordzila_opens(answer) ? answer % 1000 : 0; }
-
-/*
- * What a box asks before it reads or overwrites a size block: whether the grant opens it for that, on the roll as it is now. 1 if so, and 0
- * if not, whatever the reason:
- *
- *     if (gordzila_may_overwrite(key, sizeof key, rounds, roll, sizeof roll, grant, sizeof grant, 300)) { overwrite it }
- *
- * Who wants the reason, or the contractor, asks gordzila_check. Like the readers above, these are code of this header over a call of the
- * library: what is proved is the call.
- */
-GORDZILA_MUST_USE
-static inline int gordzila_may_read(const uint8_t *key, size_t key_length, uint32_t rounds, const uint8_t *roll, size_t roll_length,
-                                    const uint8_t *grant, size_t grant_length, uint32_t size_block) {
-    return gordzila_opens(gordzila_check(key, key_length, rounds, roll, roll_length, grant, grant_length, size_block, GORDZILA_READING));
-}
-GORDZILA_MUST_USE
-static inline int gordzila_may_overwrite(const uint8_t *key, size_t key_length, uint32_t rounds, const uint8_t *roll, size_t roll_length,
-                                         const uint8_t *grant, size_t grant_length, uint32_t size_block) {
-    return gordzila_opens(gordzila_check(key, key_length, rounds, roll, roll_length, grant, grant_length, size_block, GORDZILA_OVERWRITING));
-}
-
-/*
- * The morning queue: checks 0 to 64 grants for one size block and one right, on one roll.
- *
- * grants: one grant after the other, 12 bytes each, so that the length is a multiple of 12 up to 768. answers: at least one byte for
- * each grant.
- *
- * Returns the number of the first of these reasons that holds: 1, 2, 3 (roll, or grants over 768 bytes or no multiple of 12),
- * 4 (answers shorter than the number of grants), 7, 14. They refuse the whole call, and nothing is written. 65 grants are 3, however
- * long answers is.
- *
- * Otherwise it returns 0, and answers has one byte for each grant, in their order: 0 if the grant opens, else the number with which
- * gordzila_check refuses it, which is 8, 9, 10, 20, 23 or 25. A grant that is refused does not stop those after it. Bytes of answers past
- * the number of grants stay. Take every byte but 0 for a refusal: later versions may have more numbers.
- *
- * Without grants it returns 0 and writes nothing, where the other arguments are right: with right 3 it returns 7 all the same, and
- * with size block 0 it returns 14. As for every call, the pointers are not null even then.
- *
- * Beware of 0. A byte of 0 opens, but gordzila_check never answers 0, and what opens there is 1000 or more: never hand a byte to
- * gordzila_opens. A return of 0 does not say that a grant opens, only that each has its byte. And where the call refuses, answers
- * keeps what stood there: had the host cleared it, each byte would look like a grant that opens. gordzila_queue_opens takes what the
- * call returned and a byte of answers, and asks for both to be 0.
- *
- * The contractor is not answered. Who needs it hands that grant to gordzila_check.
- */
-GORDZILA_MUST_USE
-uint32_t gordzila_check_queue(const uint8_t *key, size_t key_length, uint32_t rounds, const uint8_t *roll, size_t roll_length,
-                              const uint8_t *grants, size_t grants_length, uint32_t size_block, uint32_t right,
-                              uint8_t *answers, size_t answers_length);
-
-/* Of what gordzila_check_queue returned, and of a grant's byte in answers: whether the grant opens. */
-GORDZILA_MUST_USE
-static inline int gordzila_queue_opens(uint32_t returned, uint8_t byte) { return returned == 0 && byte == 0; }
-
-/*
- * The calls on the roll. Each returns 0, or the number of the first reason that holds. Those that change a contractor's entry leave all
- * other entries as they are.
- *
- * The empty roll, on which nobody was ever entered: GORDZILA_ROLL_BYTES bytes to out, all counts 0 and all highest rights 1. Order: 4.
- *
- * Beware: for a new store only. Over a roll in use it starts the counts anew: withdrawals and demotions are forgotten, and once
- * contractors are entered again, grants that were revoked may open.
- */
-GORDZILA_MUST_USE
-uint32_t gordzila_empty_roll(uint8_t *out, size_t out_length);
-
-/*
- * Enter a contractor who is not in standing: 1 is added to their count, and right, 1 or 2, becomes their highest right. At count 65,534
- * or 65,535 they cannot be entered again. Entering never changes the right of someone in standing: it is refused with 21, whether 1 or
- * 2 is given, and gordzila_change_right changes it. Order: 3, 6, 7, 21, 22.
- */
-GORDZILA_MUST_USE
-uint32_t gordzila_enter(uint8_t *roll, size_t roll_length, uint32_t contractor, uint32_t right);
-
-/*
- * Change the highest right of a contractor in standing to right: to 1, which demotes who had 2, or to 2, which raises. The right that
- * they have already is taken too. Order: 3, 6, 7, 20.
- *
- * A demoted contractor stays in standing. Their grants go on opening for reading, those for overwriting too. Where overwriting is asked
- * for, these are refused with 25 until the contractor is raised; a withdrawal ends them. The issue of such a grant to them is refused
- * with 25 too, until they are raised, or are withdrawn (then it is 20) and entered again with 2. In both cases another reason is given
- * where one comes before 25.
- *
- * Beware:
- *  - No count changes, so that a demotion ends no grant. Once the contractor is raised, every grant for overwriting that was issued to
- *    them in this standing overwrites again, also one from before the demotion. To end these grants, withdraw the contractor and enter
- *    them again: then no grant that was issued to them before opens, for reading neither, and whoever goes on plotting needs new ones.
- *  - The change is seen only on the roll on which it was made, as a withdrawal is: a box that checks against an older copy goes on
- *    overwriting.
- */
-GORDZILA_MUST_USE
-uint32_t gordzila_change_right(uint8_t *roll, size_t roll_length, uint32_t contractor, uint32_t right);
-
-/* Withdraw a contractor who is in standing: 1 is added to their count, and their highest right becomes 1. Order: 3, 6, 20. */
-GORDZILA_MUST_USE
-uint32_t gordzila_withdraw(uint8_t *roll, size_t roll_length, uint32_t contractor);
-
-/*
- * Of a roll: the count of a contractor. roll has to point to GORDZILA_ROLL_BYTES bytes, since no length is asked for; 0 outside 1 to 200,
- * where no byte is read. On a roll that was changed by the calls alone, no count is ever lower than it was: a copy on which one is lower
- * than on another is the older one. Of two with equal counts either may be: a change of a right moves none.
- */
-static inline uint32_t gordzila_count(const uint8_t *roll, uint32_t contractor) {
-    if (contractor < 1 || contractor > 200) {
-        return 0;
-    }
-    return (uint32_t)roll[2 * contractor - 2] << 8 | roll[2 * contractor - 1];
-}
-
-/*
- * Of a roll: the highest right of a contractor, whether in standing or not. roll has to point to GORDZILA_ROLL_BYTES bytes, since no
- * length is asked for; contractor is 1 to 200. Returns GORDZILA_OVERWRITING where their byte is 2, and GORDZILA_READING where it is any
- * other; 0 outside 1 to 200, where no byte is read. Like the other readers, it is code of this header and no call of the library, and
- * it is not among what is proved.
- */
-static inline uint32_t gordzila_highest_right(const uint8_t *roll, uint32_t contractor) {
-    if (contractor < 1 || contractor > 200) {
-        return 0;
-    }
-    return roll[GORDZILA_ROLL_COUNTS_BYTES + contractor - 1] == GORDZILA_OVERWRITING ? GORDZILA_OVERWRITING : GORDZILA_READING;
-}
-
-/*
- * Issues a grant to a contractor in the standing that the roll has for them, for a size block other than 0 and a right up to their
- * highest: 12 bytes to out. A grant for overwriting also opens its size block for reading, so that nobody needs one of each. Returns 0,
- * or the number of the first reason that holds. Order: 1, 2, 3 (roll), 4, 6, 7, 14, 20, 25.
- */
-GORDZILA_MUST_USE
-uint32_t gordzila_issue(const uint8_t *key, size_t key_length, uint32_t rounds, const uint8_t *roll, size_t roll_length,
-                        uint32_t contractor, uint32_t size_block, uint32_t right, uint8_t *out, size_t out_length);
-
-/*
- * Sealed pages: up to 492 bytes of a size block, enciphered and with a check, in a page of 512 bytes.
- *
- * A page has, with numbers big end first: the size block's number (4 bytes), the page number (2), the used count (2), which is the
- * payload's length, and 4 zeros; 492 bytes of payload with unused bytes zero, enciphered; and the check (8). The first 12 bytes stay
- * plain: anyone can read them.
- *
- * The payload is enciphered under the first key, in 41 blocks of 12 bytes: each is added (exclusive or) to the enciphered block
- * before it and then enciphered, and the first is added to the 12 plain bytes enciphered under that key. The check is the first 8
- * bytes of the last block of the same chaining under the second key, from zeros, over bytes 0 to 503 as they are stored.
- *
- * first_key, second_key: two different keys of one length, with one round count.
- *
- * scratch: at least 576 bytes, of any content, in which the calls keep their subkey lists while they work. These are as secret as the
- * keys. After a page was sealed or opened, after 13 and after the 11 that is tried after 13, the first 576 bytes are zero, and any
- * beyond keep their content. After every other refusal all bytes keep their content. What the calls leave on the stack is another matter:
- * see gordzila_wipe_stack. Calls that are made at the same time need a scratch each.
- *
- * Beware:
- *  - Neither call works in place: out may share no byte with payload or with page. Besides scratch, sealing needs 512 bytes beside the
- *    payload, and opening 492 beside the page, also on a host with little memory.
- *  - A page is not bound to its place. gordzila_open_page is not told which page is wanted: it answers the size block and the page
- *    number that the page was sealed with, and the host has to compare them with those that it wanted. An older page with the same
- *    numbers opens too. That pages are missing, or stand in another order, is not noticed.
- *  - Nothing in a page is drawn at random: the same payload with the same numbers under the same keys and round count gives the same
- *    page, so that whoever sees two pages sees whether they are equal. Where the 12 plain bytes are the same and the payloads start
- *    alike, the pages start alike, as far as whole blocks of 12 bytes are equal.
- *  - The payload is enciphered under the first key alone, and the check made under the second alone. With the right second key and
- *    another first key, a page whose 492 bytes are all used opens, to bytes that nobody sealed; any other page is then refused with
- *    the 11 that is tried after 13, unless its unused bytes happen to become zeros. Take a pair of keys for pages and for nothing
- *    else, make neither key from the other, and keep the two apart from each other and from the pages.
- *  - What is proved is what the calls answer and write. That nobody without the keys can read a payload, or make a page that opens, is
- *    not.
- *
- * Seals a page of a size block other than 0: 512 bytes to out. The payload has 0 to 492 bytes, of any content. Returns 0, or the number
- * of the first reason that holds. Order: 1 (also where the keys are equal or of unequal lengths), 2, 4 (scratch under 576 or out under
- * 512), 14, 12.
- */
-GORDZILA_MUST_USE
-uint32_t gordzila_seal_page(const uint8_t *first_key, size_t first_key_length, const uint8_t *second_key, size_t second_key_length,
-                            uint32_t rounds, uint32_t size_block, uint16_t page_number, const uint8_t *payload,
-                            size_t payload_length, uint8_t *scratch, size_t scratch_length, uint8_t *out, size_t out_length);
-
-/*
- * Opens a page: all 492 bytes of the payload to out, with zeros past those that are used. Opening what was sealed, under the same keys
- * and round count, gives the payload, the size block and the page number again.
- *
- * Beware: the answer is never 0, and so `if (gordzila_open_page(...))` takes a refusal for a page that opened. Hand the answer to
- * gordzila_page_opens.
- *
- * Returns the number of the first of these reasons that holds: 1 (also where the keys are equal or of unequal lengths), 2,
- * 4 (scratch under 576 or out under 492), 11 (page not 512 bytes, used count over 492, or bytes 8 to 11 not zero), 13, and then 11
- * again (unused payload bytes not zero). Where it refuses, out keeps what stood there, also after 13. A used count that was changed
- * to another one of 492 or less is left to the check: 13.
- *
- * Otherwise the answer is 2^63 + 2^48 * used + 2^32 * page number + size block. A page that was sealed for size block 0, before 0.7.0, is
- * not refused for that: it opens, and the size block in the answer is 0. The answer takes 64 bits: cut to 32, as gordzila_opens would cut
- * it, it would be the size block alone, and size block 0, 13 or 1007 would look like other answers. The readers below take it whole.
- */
-GORDZILA_MUST_USE
-uint64_t gordzila_open_page(const uint8_t *first_key, size_t first_key_length, const uint8_t *second_key, size_t second_key_length,
-                            uint32_t rounds, const uint8_t *page, size_t page_length, uint8_t *scratch, size_t scratch_length,
-                            uint8_t *out, size_t out_length);
-
-/* Of an answer of gordzila_open_page: whether the page opens, and the number with which it is refused; 0 where it opens. */
-GORDZILA_MUST_USE
-static inline int gordzila_page_opens(uint64_t answer) { return answer >> 63 == 1; }
-static inline uint32_t gordzila_page_refusal(uint64_t answer) { return gordzila_page_opens(answer) ? 0 : (uint32_t)answer; }
-
-/*
- * And what the page was sealed with: the size block, the page number, and how many bytes of the payload are used; 0 where it is refused. A
- * page that opens may have 0 in each of them too, the size block among them: ask gordzila_page_opens whether it opens.
- */
-static inline uint32_t gordzila_opened_size_block(uint64_t answer) { return gordzila_page_opens(answer) ? (uint32_t)answer : 0; }
-static inline uint16_t gordzila_opened_page_number(uint64_t answer) { return gordzila_page_opens(answer) ? (uint16_t)(answer >> 32) : 0; }
-static inline uint16_t gordzila_opened_used(uint64_t answer) { return gordzila_page_opens(answer) ? (uint16_t)(answer >> 48 & 32767) : 0; }
-
-/*
- * The cipher. Each returns 0, or the number of the first reason that holds.
- *
- * Encipher or decipher one block: 12 bytes to out. Order: 1, 2, 3, 4.
- */
-GORDZILA_MUST_USE
-uint32_t gordzila_encipher(const uint8_t *key, size_t key_length, uint32_t rounds, const uint8_t *block, size_t block_length,
-                           uint8_t *out, size_t out_length);
-GORDZILA_MUST_USE
-uint32_t gordzila_decipher(const uint8_t *key, size_t key_length, uint32_t rounds, const uint8_t *block, size_t block_length,
-                           uint8_t *out, size_t out_length);
-
-/*
- * Prepare the subkey list for either direction: 12 * (rounds + 1) bytes to out, which are the subkeys of 12 bytes in the order in
- * which gordzila_run uses them. Over the list for enciphering, gordzila_run gives what gordzila_encipher gives with that key and
- * round count; over the one for deciphering, what gordzila_decipher gives. Order: 1, 2, 4.
- */
-GORDZILA_MUST_USE
-uint32_t gordzila_prepare_enciphering(const uint8_t *key, size_t key_length, uint32_t rounds, uint8_t *out,
-                                      size_t out_length);
-GORDZILA_MUST_USE
-uint32_t gordzila_prepare_deciphering(const uint8_t *key, size_t key_length, uint32_t rounds, uint8_t *out,
-                                      size_t out_length);
-
-/* Run the engine over a list of 11 to 24 subkeys, whether a key gives it or not: 12 bytes to out. Order: 5, 3, 4. */
-GORDZILA_MUST_USE
-uint32_t gordzila_run(const uint8_t *list, size_t list_length, const uint8_t *block, size_t block_length, uint8_t *out,
-                      size_t out_length);
-
-/*
- * A key's stage n, which is below the key's length in bytes: 24 bytes to out, with zeros past that length; and the subkey of that
- * stage: 12 bytes to out. Order: 1, 5, 4.
- */
-GORDZILA_MUST_USE
-uint32_t gordzila_stage(const uint8_t *key, size_t key_length, uint32_t n, uint8_t *out, size_t out_length);
-GORDZILA_MUST_USE
-uint32_t gordzila_subkey(const uint8_t *key, size_t key_length, uint32_t n, uint8_t *out, size_t out_length);
-
-/*
- * The key holder: one stage of a key, in 26 bytes that the host keeps. They are the key's length, the stage's number, and the 24 bytes
- * of the stage with zeros past the key's length. 26 bytes with another key length, a stage number not below it, or non-zero bytes past
- * it, and a holder not of 26 bytes, are refused with 24. The stage's own bytes may be any. Steps lead from any stage to stage 0, so these
- * bytes are as secret as the key.
- *
- * Make a holder of a key at stage 0: 26 bytes to out. Order: 1, 4.
- */
-GORDZILA_MUST_USE
-uint32_t gordzila_holder_make(const uint8_t *key, size_t key_length, uint8_t *out, size_t out_length);
-
-/*
- * Step the holder to the next stage, and from the last to stage 0; or to the stage before, and from stage 0 to the last. As many steps
- * on end as the key has bytes, all forward or all back, bring the same 26 bytes again. Order: 24.
- */
-GORDZILA_MUST_USE
-uint32_t gordzila_holder_forward(uint8_t *holder, size_t holder_length);
-GORDZILA_MUST_USE
-uint32_t gordzila_holder_back(uint8_t *holder, size_t holder_length);
-
-/*
- * Walk the holder to stage n, the shorter way; forward where both are as long. Returns the number of the first reason that holds: 24, 5.
- * Otherwise the answer is the number of steps, plus 1,000 if they went forward, 2,000 if back; 1000 if the holder was there already.
- *
- * Beware: the answer is never 0. Hand it to gordzila_walked.
- */
-GORDZILA_MUST_USE
-uint32_t gordzila_holder_walk(uint8_t *holder, size_t holder_length, uint32_t n);
-
-/* Of an answer of gordzila_holder_walk: whether the holder walked, and if so how many steps, and whether back; 0 where it refused. */
-GORDZILA_MUST_USE
-static inline int gordzila_walked(uint32_t answer) { return answer >= 1000; }
-static inline uint32_t gordzila_walked_steps(uint32_t answer) { return gordzila_walked(answer) ? answer % 1000 : 0; }
-static inline int gordzila_walked_back(uint32_t answer) { return answer >= 2000; }
-
-/* The subkey of the stage that the holder is at: 12 bytes to out. Order: 24, 4. */
-GORDZILA_MUST_USE
-uint32_t gordzila_holder_subkey(const uint8_t *holder, size_t holder_length, uint8_t *out, size_t out_length);
-
-/*
- * Wipes the stack: writes zeros to the GORDZILA_WIPED_BYTES bytes of it below the caller, which no call of the library goes beyond. That
- * holds where the program looks nothing up while it runs: link it with `-Wl,-z,now`, as the pkg-config file does, or statically. Otherwise the
- * loader, in the first call, puts away registers deeper down than is wiped, and with them what they hold of a key or a payload.
- *
- * The library's calls do not clean their stack: a compiler leaves out what clears bytes that are not read again. After a call with a key,
- * subkeys and stages of the key stand there until something else is written over them, and so does what a grant or a block deciphered to;
- * after a call on a holder, its stage does. From a stage steps lead back to the key. Whoever can read this memory later, from a core dump or
- * through another fault of the program, has what opens every grant. A host that minds calls this right after the call, from the same
- * function. Registers are not wiped, nor is what the host itself keeps: the key, the output, the roll.
- *
- * The writes are volatile, so that a compiler has to keep them. `make test` finds what the calls leave, and nothing of it after the wipe, with
- * gcc, and clang where it is there, and several levels of optimizing. On other compilers it may be compiled into its caller and wipe less.
- */
-enum { GORDZILA_WIPED_BYTES = 1024 };
-#if defined(__GNUC__)
-#define GORDZILA_APART __attribute__((noinline, unused, no_sanitize_address))
-#define GORDZILA_IN_PLACE __attribute__((always_inline))
-#else
-#define GORDZILA_APART
-#define GORDZILA_IN_PLACE
-#endif
-
-/* Beside its array a compiler keeps bytes of its own, and between them may leave a few that are not written. */
-GORDZILA_APART static uint64_t gordzila_wipe_far(void) {
-    volatile uint8_t room[GORDZILA_WIPED_BYTES];
-    size_t i;
-    for (i = 0; i < sizeof room; i++) {
-        room[i] = 0;
-    }
-    return room[0];
-}
-
-/* These lie right below the caller, where those few are: without an array, nothing is kept between them. */
-GORDZILA_APART static uint64_t gordzila_wipe_near(void) {
-    volatile uint64_t a = 0, b = 0, c = 0, d = 0, e = 0, f = 0, g = 0, h = 0, i = 0, j = 0, k = 0, l = 0;
-    return a + b + c + d + e + f + g + h + i + j + k + l;
-}
-
-/* The writes to done keep a compiler from making a jump of the last call, with the caller's own stack given back before it. */
-GORDZILA_IN_PLACE static inline void gordzila_wipe_stack(void) {
-    volatile uint64_t done;
-    done = gordzila_wipe_far();
-    done = gordzila_wipe_near();
-    (void)done;
-}
-
-#ifdef __cplusplus
-}
-#endif
-
-#endif
-
-/*
- * Changes in 0.8.0, for hosts that were written for 0.7:
- *  - gordzila_may_read and gordzila_may_overwrite are new, and answer 1 or 0: what a box asks before it reads or overwrites. gordzila_refusal
- *    is the reason in an answer of gordzila_check.
- *  - gordzila_reason_text and gordzila_reason_remedy are new: a text for each reason, and what to do about it. A host that has a table of
- *    its own can throw it away.
- *  - Where the answer of a call is dropped, compilers now warn. Where it may be dropped, write so: in C `uint32_t unused = call; (void)unused;`.
- *  - gordzila_count is new: it reads a contractor's count on a roll. gordzila_wipe_stack is new, and so are GORDZILA_VERSION and
- *    GORDZILA_VERSION_NUMBER.
- *  - No call changed its form or what it does, and no constant its name or number. Grants, pages and rolls have the bytes that they had.
- *
  * Changes in 0.7.0, for hosts that were written for 0.6:
  *  - Size block number 0, which was for practice, can no longer be asked for. Reason 14 is new: gordzila_issue, gordzila_check and
  *    gordzila_check_queue give it where size_block is 0, right after 7 in their order, and gordzila_seal_page right after 4. It is about
@@ -592,7 +62,7 @@ GORDZILA_IN_PLACE static inline void gordzila_wipe_stack(void) {
  *       constant but GORDZILA_ROLL_BYTES its number.
  *  3. The stored rolls:
  *     - Append 200 bytes to each that is stored, one for each contractor, contractor 1's first: 2 for those who may overwrite, 1 for
- *       all others, everyone who is not in standing among them ("The roll", above, says who is). No call does it all, but
+ *       all others, everyone who is not in standing among them ("The roll", below, says who is). No call does it all, but
  *       gordzila_change_right helps: append 200 bytes of 1, and call it with 2 for each who may overwrite. Where it answers 20, they
  *       are not in standing, and 1 stays.
  *     - With 2 for everyone in standing, each grant opens for what it opened for. With 1 for everyone, every grant for overwriting
@@ -621,4 +91,324 @@ GORDZILA_IN_PLACE static inline void gordzila_wipe_stack(void) {
  *    asked of a reading grant.
  *  - A box that kept two grants for one size block, one for each right, needs only the overwriting one.
  *  - No call changed its form, and no constant its name or number.
+ *
+ * The header is for C99 or newer and for C++.
  */
+#ifndef GORDZILA_H
+#define GORDZILA_H
+
+#include <stddef.h>
+#include <stdint.h>
+
+#ifdef __cplusplus
+extern "C" {
+#endif
+
+/* Reasons for which a call refuses. */
+enum {
+    /* found in the input */
+    GORDZILA_KEY_LENGTH = 1,        /* key not 12, 18 or 24 bytes; two keys for a page that are equal or of unequal lengths */
+    GORDZILA_ROUND_COUNT = 2,       /* round count not 10..11, 14..17 or 18..23, by the key's length */
+    GORDZILA_INPUT_LENGTH = 3,      /* block or grant not 12 bytes; roll not 600 bytes; queue of grants over 768 bytes, or no multiple of 12 */
+    GORDZILA_OUTPUT_TOO_SHORT = 4,  /* out shorter than what is to be written; answers shorter than the number of grants; scratch under 576 bytes */
+    GORDZILA_STAGE_OR_LIST = 5,     /* stage number not below the key's length in bytes; subkey list under 132 bytes, over 288, or no multiple of 12 */
+    GORDZILA_CONTRACTOR = 6,        /* contractor outside 1 to 200 */
+    GORDZILA_RIGHT = 7,             /* right neither 1 nor 2 */
+    GORDZILA_NOT_A_GRANT = 8,       /* the deciphered bytes have a wrong mark, contractor or right */
+    GORDZILA_OTHER_BLOCK = 9,       /* grant for another size block */
+    GORDZILA_OTHER_RIGHT = 10,      /* overwriting asked of a reading grant */
+    GORDZILA_NOT_A_PAGE = 11,       /* page not 512 bytes; used count over 492; bytes 8 to 11, or unused payload bytes, not zero */
+    GORDZILA_PAYLOAD_TOO_LONG = 12, /* payload over 492 bytes */
+    GORDZILA_CHECK_DIFFERS = 13,    /* the page's check differs */
+    GORDZILA_BLOCK_ZERO = 14,       /* size block number 0 asked for */
+    /* found in the state */
+    GORDZILA_NOT_IN_STANDING = 20,  /* contractor not in standing */
+    GORDZILA_IN_STANDING = 21,      /* entering someone in standing */
+    GORDZILA_COUNT_SPENT = 22,      /* entering at count 65,534 or 65,535 */
+    GORDZILA_OTHER_COUNT = 23,      /* the grant's count differs from the roll's */
+    GORDZILA_BROKEN_HOLDER = 24,    /* holder not 26 bytes, or not whole: a wrong key length, a stage number not below it, or bytes past it that are not zero */
+    GORDZILA_ABOVE_HIGHEST = 25     /* right asked for above the contractor's highest */
+};
+
+/*
+ * Rights, as they stand in a grant, as they are asked for, and as a contractor's highest right is given. A reading grant opens its size
+ * block for reading and not for overwriting; an overwriting grant opens it for both, or for reading alone where its contractor may only
+ * read.
+ */
+enum { GORDZILA_READING = 1, GORDZILA_OVERWRITING = 2 };
+
+/* Lengths in bytes. */
+enum { GORDZILA_BLOCK_BYTES = 12, GORDZILA_GRANT_BYTES = 12 };
+enum { GORDZILA_ROLL_BYTES = 600, GORDZILA_ROLL_COUNTS_BYTES = 400 };
+enum { GORDZILA_STAGE_BYTES = 24, GORDZILA_SUBKEY_BYTES = 12, GORDZILA_LONGEST_LIST_BYTES = 288 };
+enum { GORDZILA_HOLDER_BYTES = 26 };
+enum { GORDZILA_PAGE_BYTES = 512, GORDZILA_PAYLOAD_BYTES = 492, GORDZILA_SCRATCH_BYTES = 576 };
+
+/* The longest queue, in grants and in bytes. */
+enum { GORDZILA_QUEUE_MOST_GRANTS = 64, GORDZILA_LONGEST_QUEUE_BYTES = 768 };
+
+/*
+ * The roll: GORDZILA_ROLL_BYTES bytes that the host keeps, with an entry for each of the contractors 1 to 200, which is a count and a
+ * highest right. Any such bytes are a roll.
+ *
+ * Bytes 0 to 399, GORDZILA_ROLL_COUNTS_BYTES in all, are the counts, two bytes each, big end first. A contractor is in standing exactly
+ * when their count is odd and below 65,535.
+ *
+ * Bytes 400 to 599 are the highest rights, one byte each, so that contractor n has byte 399 + n; gordzila_highest_right reads it. 2
+ * means that the contractor, while in standing, may be issued grants for overwriting and that these overwrite. Every other figure means
+ * reading only: 0, 1, 3 and 255 alike. The calls write 1 and 2, and any other figure stays until a call that does not refuse enters or
+ * withdraws that contractor, or changes their right.
+ */
+
+/*
+ * Checks a grant for one size block and one right. A reading grant opens its size block where reading is asked for, an
+ * overwriting grant where reading is, and where overwriting is if that is its contractor's highest right on the roll.
+ *
+ * Returns the number of the first of these reasons that holds: 1, 2, 3 (grant or roll), 7, 14, 8, 9, 10, 20, 23, 25. Otherwise the
+ * grant opens the size block, and the answer is 1,000 times the right asked for plus the contractor: 1001 to 1200 for reading,
+ * 2001 to 2200 for overwriting. The right in the answer is the one asked for, and not the grant's: an overwriting grant that is
+ * asked for reading answers 1001 to 1200. 25 too is about the right asked for: the overwriting grant of a contractor who may only read
+ * opens for reading. And 14 is about the size block asked for: it says that this is 0, and nothing of the grant. A grant that was issued
+ * for size block 0, before 0.7.0, opens nothing: asked for 0 it is 14, and asked for another size block 9, where no reason comes before
+ * these.
+ */
+uint32_t gordzila_check(const uint8_t *key, size_t key_length, uint32_t rounds, const uint8_t *roll, size_t roll_length,
+                        const uint8_t *grant, size_t grant_length, uint32_t size_block, uint32_t right);
+
+/* Of an answer of gordzila_check: whether the grant opens, and if so the right asked for and the contractor; 0 where it does not. */
+static inline int gordzila_opens(uint32_t answer) { return answer >= 1000; }
+static inline uint32_t gordzila_answered_right(uint32_t answer) { return answer / 1000; }
+static inline uint32_t gordzila_answered_contractor(uint32_t answer) { return gordzila_opens(answer) ? answer % 1000 : 0; }
+
+/*
+ * The morning queue: checks 0 to 64 grants for one size block and one right, on one roll.
+ *
+ * grants: one grant after the other, 12 bytes each, so that the length is a multiple of 12 up to 768. answers: at least one byte for
+ * each grant.
+ *
+ * Returns the number of the first of these reasons that holds: 1, 2, 3 (roll, or grants over 768 bytes or no multiple of 12),
+ * 4 (answers shorter than the number of grants), 7, 14. They refuse the whole call, and nothing is written. 65 grants are 3, however
+ * long answers is.
+ *
+ * Otherwise it returns 0, and answers has one byte for each grant, in their order: 0 if the grant opens, else the number with which
+ * gordzila_check refuses it, which is 8, 9, 10, 20, 23 or 25. A grant that is refused does not stop those after it. Bytes of answers past
+ * the number of grants stay. Take every byte but 0 for a refusal: later versions may have more numbers.
+ *
+ * Without grants it returns 0 and writes nothing, where the other arguments are right: with right 3 it returns 7 all the same, and
+ * with size block 0 it returns 14. As for every call, the pointers are not null even then.
+ *
+ * Beware of 0. A byte of 0 opens, but gordzila_check never answers 0, and what opens there is 1000 or more: never hand a byte to
+ * gordzila_opens. A return of 0 does not say that a grant opens, only that each has its byte. And where the call refuses, answers
+ * keeps what stood there: had the host cleared it, each byte would look like a grant that opens. gordzila_queue_opens takes what the
+ * call returned and a byte of answers, and asks for both to be 0.
+ *
+ * The contractor is not answered. Who needs it hands that grant to gordzila_check.
+ */
+uint32_t gordzila_check_queue(const uint8_t *key, size_t key_length, uint32_t rounds, const uint8_t *roll, size_t roll_length,
+                              const uint8_t *grants, size_t grants_length, uint32_t size_block, uint32_t right,
+                              uint8_t *answers, size_t answers_length);
+
+/* Of what gordzila_check_queue returned, and of a grant's byte in answers: whether the grant opens. */
+static inline int gordzila_queue_opens(uint32_t returned, uint8_t byte) { return returned == 0 && byte == 0; }
+
+/*
+ * The calls on the roll. Each returns 0, or the number of the first reason that holds. Those that change a contractor's entry leave all
+ * other entries as they are.
+ *
+ * The empty roll, on which nobody was ever entered: GORDZILA_ROLL_BYTES bytes to out, all counts 0 and all highest rights 1. Order: 4.
+ *
+ * Beware: for a new store only. Over a roll in use it starts the counts anew: withdrawals and demotions are forgotten, and once
+ * contractors are entered again, grants that were revoked may open.
+ */
+uint32_t gordzila_empty_roll(uint8_t *out, size_t out_length);
+
+/*
+ * Enter a contractor who is not in standing: 1 is added to their count, and right, 1 or 2, becomes their highest right. At count 65,534
+ * or 65,535 they cannot be entered again. Entering never changes the right of someone in standing: it is refused with 21, whether 1 or
+ * 2 is given, and gordzila_change_right changes it. Order: 3, 6, 7, 21, 22.
+ */
+uint32_t gordzila_enter(uint8_t *roll, size_t roll_length, uint32_t contractor, uint32_t right);
+
+/*
+ * Change the highest right of a contractor in standing to right: to 1, which demotes who had 2, or to 2, which raises. The right that
+ * they have already is taken too. Order: 3, 6, 7, 20.
+ *
+ * A demoted contractor stays in standing. Their grants go on opening for reading, those for overwriting too. Where overwriting is asked
+ * for, these are refused with 25 until the contractor is raised; a withdrawal ends them. The issue of such a grant to them is refused
+ * with 25 too, until they are raised, or are withdrawn (then it is 20) and entered again with 2. In both cases another reason is given
+ * where one comes before 25.
+ *
+ * Beware:
+ *  - No count changes, so that a demotion ends no grant. Once the contractor is raised, every grant for overwriting that was issued to
+ *    them in this standing overwrites again, also one from before the demotion. To end these grants, withdraw the contractor and enter
+ *    them again: then no grant that was issued to them before opens, for reading neither, and whoever goes on plotting needs new ones.
+ *  - The change is seen only on the roll on which it was made, as a withdrawal is: a box that checks against an older copy goes on
+ *    overwriting.
+ */
+uint32_t gordzila_change_right(uint8_t *roll, size_t roll_length, uint32_t contractor, uint32_t right);
+
+/* Withdraw a contractor who is in standing: 1 is added to their count, and their highest right becomes 1. Order: 3, 6, 20. */
+uint32_t gordzila_withdraw(uint8_t *roll, size_t roll_length, uint32_t contractor);
+
+/*
+ * Of a roll: the highest right of a contractor, whether in standing or not. roll has to point to GORDZILA_ROLL_BYTES bytes, since no
+ * length is asked for; contractor is 1 to 200. Returns GORDZILA_OVERWRITING where their byte is 2, and GORDZILA_READING where it is any
+ * other; 0 outside 1 to 200, where no byte is read. Like the other readers, it is code of this header and no call of the library, and
+ * it is not among what is proved.
+ */
+static inline uint32_t gordzila_highest_right(const uint8_t *roll, uint32_t contractor) {
+    if (contractor < 1 || contractor > 200) {
+        return 0;
+    }
+    return roll[GORDZILA_ROLL_COUNTS_BYTES + contractor - 1] == GORDZILA_OVERWRITING ? GORDZILA_OVERWRITING : GORDZILA_READING;
+}
+
+/*
+ * Issues a grant to a contractor in the standing that the roll has for them, for a size block other than 0 and a right up to their
+ * highest: 12 bytes to out. A grant for overwriting also opens its size block for reading, so that nobody needs one of each. Returns 0,
+ * or the number of the first reason that holds. Order: 1, 2, 3 (roll), 4, 6, 7, 14, 20, 25.
+ */
+uint32_t gordzila_issue(const uint8_t *key, size_t key_length, uint32_t rounds, const uint8_t *roll, size_t roll_length,
+                        uint32_t contractor, uint32_t size_block, uint32_t right, uint8_t *out, size_t out_length);
+
+/*
+ * Sealed pages: up to 492 bytes of a size block, enciphered and with a check, in a page of 512 bytes.
+ *
+ * A page has, with numbers big end first: the size block's number (4 bytes), the page number (2), the used count (2), which is the
+ * payload's length, and 4 zeros; 492 bytes of payload with unused bytes zero, enciphered; and the check (8). The first 12 bytes stay
+ * plain: anyone can read them.
+ *
+ * The payload is enciphered under the first key, in 41 blocks of 12 bytes: each is added (exclusive or) to the enciphered block
+ * before it and then enciphered, and the first is added to the 12 plain bytes enciphered under that key. The check is the first 8
+ * bytes of the last block of the same chaining under the second key, from zeros, over bytes 0 to 503 as they are stored.
+ *
+ * first_key, second_key: two different keys of one length, with one round count.
+ *
+ * scratch: at least 576 bytes, of any content, in which the calls keep their subkey lists while they work. These are as secret as the
+ * keys. After a page was sealed or opened, after 13 and after the 11 that is tried after 13, the first 576 bytes are zero, and any
+ * beyond keep their content. After every other refusal all bytes keep their content. Nothing is said of what the calls leave on the
+ * stack. Calls that are made at the same time need a scratch each.
+ *
+ * Stack: of the outcomes tried, the most that a call took is 512 bytes (sealing) and 592 (opening), with the return address and without
+ * the arguments (painted by `make stack`, x86-64, this version's archive).
+ *
+ * Beware:
+ *  - Neither call works in place: out may share no byte with payload or with page. Besides scratch, sealing needs 512 bytes beside the
+ *    payload, and opening 492 beside the page, also on a host with little memory.
+ *  - A page is not bound to its place. gordzila_open_page is not told which page is wanted: it answers the size block and the page
+ *    number that the page was sealed with, and the host has to compare them with those that it wanted. An older page with the same
+ *    numbers opens too. That pages are missing, or stand in another order, is not noticed.
+ *  - Nothing in a page is drawn at random: the same payload with the same numbers under the same keys and round count gives the same
+ *    page, so that whoever sees two pages sees whether they are equal. Where the 12 plain bytes are the same and the payloads start
+ *    alike, the pages start alike, as far as whole blocks of 12 bytes are equal.
+ *  - The payload is enciphered under the first key alone, and the check made under the second alone. With the right second key and
+ *    another first key, a page whose 492 bytes are all used opens, to bytes that nobody sealed; any other page is then refused with
+ *    the 11 that is tried after 13, unless its unused bytes happen to become zeros. Take a pair of keys for pages and for nothing
+ *    else, make neither key from the other, and keep the two apart from each other and from the pages.
+ *  - What is proved is what the calls answer and write. That nobody without the keys can read a payload, or make a page that opens, is
+ *    not.
+ *
+ * Seals a page of a size block other than 0: 512 bytes to out. The payload has 0 to 492 bytes, of any content. Returns 0, or the number
+ * of the first reason that holds. Order: 1 (also where the keys are equal or of unequal lengths), 2, 4 (scratch under 576 or out under
+ * 512), 14, 12.
+ */
+uint32_t gordzila_seal_page(const uint8_t *first_key, size_t first_key_length, const uint8_t *second_key, size_t second_key_length,
+                            uint32_t rounds, uint32_t size_block, uint16_t page_number, const uint8_t *payload,
+                            size_t payload_length, uint8_t *scratch, size_t scratch_length, uint8_t *out, size_t out_length);
+
+/*
+ * Opens a page: all 492 bytes of the payload to out, with zeros past those that are used. Opening what was sealed, under the same keys
+ * and round count, gives the payload, the size block and the page number again.
+ *
+ * Returns the number of the first of these reasons that holds: 1 (also where the keys are equal or of unequal lengths), 2,
+ * 4 (scratch under 576 or out under 492), 11 (page not 512 bytes, used count over 492, or bytes 8 to 11 not zero), 13, and then 11
+ * again (unused payload bytes not zero). Where it refuses, out keeps what stood there, also after 13. A used count that was changed
+ * to another one of 492 or less is left to the check: 13.
+ *
+ * Otherwise the answer is 2^63 + 2^48 * used + 2^32 * page number + size block. A page that was sealed for size block 0, before 0.7.0, is
+ * not refused for that: it opens, and the size block in the answer is 0. The answer takes 64 bits: cut to 32, as gordzila_opens would cut
+ * it, it would be the size block alone, and size block 0, 13 or 1007 would look like other answers. The readers below take it whole.
+ */
+uint64_t gordzila_open_page(const uint8_t *first_key, size_t first_key_length, const uint8_t *second_key, size_t second_key_length,
+                            uint32_t rounds, const uint8_t *page, size_t page_length, uint8_t *scratch, size_t scratch_length,
+                            uint8_t *out, size_t out_length);
+
+/* Of an answer of gordzila_open_page: whether the page opens, and the number with which it is refused; 0 where it opens. */
+static inline int gordzila_page_opens(uint64_t answer) { return answer >> 63 == 1; }
+static inline uint32_t gordzila_page_refusal(uint64_t answer) { return gordzila_page_opens(answer) ? 0 : (uint32_t)answer; }
+
+/*
+ * And what the page was sealed with: the size block, the page number, and how many bytes of the payload are used; 0 where it is refused. A
+ * page that opens may have 0 in each of them too, the size block among them: ask gordzila_page_opens whether it opens.
+ */
+static inline uint32_t gordzila_opened_size_block(uint64_t answer) { return gordzila_page_opens(answer) ? (uint32_t)answer : 0; }
+static inline uint16_t gordzila_opened_page_number(uint64_t answer) { return gordzila_page_opens(answer) ? (uint16_t)(answer >> 32) : 0; }
+static inline uint16_t gordzila_opened_used(uint64_t answer) { return gordzila_page_opens(answer) ? (uint16_t)(answer >> 48 & 32767) : 0; }
+
+/*
+ * The cipher. Each returns 0, or the number of the first reason that holds.
+ *
+ * Encipher or decipher one block: 12 bytes to out. Order: 1, 2, 3, 4.
+ */
+uint32_t gordzila_encipher(const uint8_t *key, size_t key_length, uint32_t rounds, const uint8_t *block, size_t block_length,
+                           uint8_t *out, size_t out_length);
+uint32_t gordzila_decipher(const uint8_t *key, size_t key_length, uint32_t rounds, const uint8_t *block, size_t block_length,
+                           uint8_t *out, size_t out_length);
+
+/*
+ * Prepare the subkey list for either direction: 12 * (rounds + 1) bytes to out, which are the subkeys of 12 bytes in the order in
+ * which gordzila_run uses them. Over the list for enciphering, gordzila_run gives what gordzila_encipher gives with that key and
+ * round count; over the one for deciphering, what gordzila_decipher gives. Order: 1, 2, 4.
+ */
+uint32_t gordzila_prepare_enciphering(const uint8_t *key, size_t key_length, uint32_t rounds, uint8_t *out,
+                                      size_t out_length);
+uint32_t gordzila_prepare_deciphering(const uint8_t *key, size_t key_length, uint32_t rounds, uint8_t *out,
+                                      size_t out_length);
+
+/* Run the engine over a list of 11 to 24 subkeys, whether a key gives it or not: 12 bytes to out. Order: 5, 3, 4. */
+uint32_t gordzila_run(const uint8_t *list, size_t list_length, const uint8_t *block, size_t block_length, uint8_t *out,
+                      size_t out_length);
+
+/*
+ * A key's stage n, which is below the key's length in bytes: 24 bytes to out, with zeros past that length; and the subkey of that
+ * stage: 12 bytes to out. Order: 1, 5, 4.
+ */
+uint32_t gordzila_stage(const uint8_t *key, size_t key_length, uint32_t n, uint8_t *out, size_t out_length);
+uint32_t gordzila_subkey(const uint8_t *key, size_t key_length, uint32_t n, uint8_t *out, size_t out_length);
+
+/*
+ * The key holder: one stage of a key, in 26 bytes that the host keeps. They are the key's length, the stage's number, and the 24 bytes
+ * of the stage with zeros past the key's length. 26 bytes with another key length, a stage number not below it, or non-zero bytes past
+ * it, and a holder not of 26 bytes, are refused with 24. The stage's own bytes may be any. Steps lead from any stage to stage 0, so these
+ * bytes are as secret as the key.
+ *
+ * Make a holder of a key at stage 0: 26 bytes to out. Order: 1, 4.
+ */
+uint32_t gordzila_holder_make(const uint8_t *key, size_t key_length, uint8_t *out, size_t out_length);
+
+/*
+ * Step the holder to the next stage, and from the last to stage 0; or to the stage before, and from stage 0 to the last. As many steps
+ * on end as the key has bytes, all forward or all back, bring the same 26 bytes again. Order: 24.
+ */
+uint32_t gordzila_holder_forward(uint8_t *holder, size_t holder_length);
+uint32_t gordzila_holder_back(uint8_t *holder, size_t holder_length);
+
+/*
+ * Walk the holder to stage n, the shorter way; forward where both are as long. Returns the number of the first reason that holds: 24, 5.
+ * Otherwise the answer is the number of steps, plus 1,000 if they went forward, 2,000 if back; 1000 if the holder was there already.
+ */
+uint32_t gordzila_holder_walk(uint8_t *holder, size_t holder_length, uint32_t n);
+
+/* Of an answer of gordzila_holder_walk: whether the holder walked, and if so how many steps, and whether back; 0 where it refused. */
+static inline int gordzila_walked(uint32_t answer) { return answer >= 1000; }
+static inline uint32_t gordzila_walked_steps(uint32_t answer) { return gordzila_walked(answer) ? answer % 1000 : 0; }
+static inline int gordzila_walked_back(uint32_t answer) { return answer >= 2000; }
+
+/* The subkey of the stage that the holder is at: 12 bytes to out. Order: 24, 4. */
+uint32_t gordzila_holder_subkey(const uint8_t *holder, size_t holder_length, uint8_t *out, size_t out_length);
+
+#ifdef __cplusplus
+}
+#endif
+
+#endif

@@ -20,15 +20,43 @@ static const uint32_t rounds = 10;
 static const uint8_t first_key[12] = {0x3d, 0x91, 0x0a, 0xe4, 0x57, 0xc8, 0x26, 0x7b, 0xf0, 0x1e, 0x99, 0x42};
 static const uint8_t second_key[12] = {0xa8, 0x14, 0xd3, 0x6f, 0x2c, 0x05, 0xb9, 0xe1, 0x78, 0x4a, 0x93, 0x5e};
 
-/* The header has a text for each reason; gordzila_reason_remedy would say what to do about it. */
-static void refused(uint32_t number) { printf("refused with %u, %s\n", (unsigned)number, gordzila_reason_text(number)); }
+static const char *reason(uint32_t number) {
+    switch (number) {
+    case GORDZILA_NOT_A_GRANT:
+        return "not a grant under this key";
+    case GORDZILA_OTHER_BLOCK:
+        return "grant for another size block";
+    case GORDZILA_OTHER_RIGHT:
+        return "overwriting asked of a reading grant";
+    case GORDZILA_NOT_A_PAGE:
+        return "not a page";
+    case GORDZILA_PAYLOAD_TOO_LONG:
+        return "too much for a page";
+    case GORDZILA_CHECK_DIFFERS:
+        return "page changed, or sealed with another second key or round count";
+    case GORDZILA_BLOCK_ZERO:
+        return "size block number left blank";
+    case GORDZILA_NOT_IN_STANDING:
+        return "contractor not in standing";
+    case GORDZILA_IN_STANDING:
+        return "contractor already in standing";
+    case GORDZILA_COUNT_SPENT:
+        return "contractor's number is used up";
+    case GORDZILA_OTHER_COUNT:
+        return "grant from an earlier standing";
+    case GORDZILA_ABOVE_HIGHEST:
+        return "contractor may only read";
+    default:
+        return "the request is wrong";
+    }
+}
 
 /* What a call on the roll, an issue or the sealing of a page answered. */
 static void done(uint32_t number) {
     if (number == 0) {
         printf("done\n");
     } else {
-        refused(number);
+        printf("refused with %u, %s\n", (unsigned)number, reason(number));
     }
 }
 
@@ -59,18 +87,18 @@ static void issue(const uint8_t roll[GORDZILA_ROLL_BYTES], uint32_t contractor, 
 static const char *verb(uint32_t right) { return right == GORDZILA_READING ? "read" : "overwrite"; }
 
 /*
- * The plotter's question: may this size block be read, or overwritten? Says so, with the contractor or the reason. A box that wants
- * neither asks gordzila_may_read or gordzila_may_overwrite, as box.c does.
+ * The plotter's question: may this size block be read, or overwritten? Says so. Where the grant opens, the answer has the right asked
+ * for.
  */
 static int may(uint32_t right, const uint8_t roll[GORDZILA_ROLL_BYTES], const uint8_t grant[GORDZILA_GRANT_BYTES],
                uint32_t size_block) {
     uint32_t answer = gordzila_check(key, sizeof key, rounds, roll, GORDZILA_ROLL_BYTES, grant, GORDZILA_GRANT_BYTES,
                                      size_block, right);
-    printf("%s size block %u: ", verb(right), (unsigned)size_block);
     if (gordzila_opens(answer)) {
-        printf("opens for contractor %u\n", (unsigned)gordzila_answered_contractor(answer));
+        printf("%s size block %u: opens for contractor %u\n", verb(gordzila_answered_right(answer)), (unsigned)size_block,
+               (unsigned)gordzila_answered_contractor(answer));
     } else {
-        refused(gordzila_refusal(answer));
+        printf("%s size block %u: refused with %u, %s\n", verb(right), (unsigned)size_block, (unsigned)answer, reason(answer));
     }
     return gordzila_opens(answer);
 }
@@ -95,8 +123,8 @@ static void may_with_pile(uint32_t right, const uint8_t roll[GORDZILA_ROLL_BYTES
     uint32_t returned = gordzila_check_queue(key, sizeof key, rounds, roll, GORDZILA_ROLL_BYTES, pile->grants, pile->length,
                                              size_block, right, answers, sizeof answers);
     if (returned != 0) {
-        printf("%s size block %u with the pile: ", verb(right), (unsigned)size_block);
-        refused(returned);
+        printf("%s size block %u with the pile: refused with %u, %s\n", verb(right), (unsigned)size_block,
+               (unsigned)returned, reason(returned));
         return;
     }
     for (size_t i = 0; i < pile->length / GORDZILA_GRANT_BYTES; i++) {
@@ -104,7 +132,7 @@ static void may_with_pile(uint32_t right, const uint8_t roll[GORDZILA_ROLL_BYTES
         if (gordzila_queue_opens(returned, answers[i])) {
             printf("opens\n");
         } else {
-            refused(answers[i]);
+            printf("refused with %u, %s\n", (unsigned)answers[i], reason(answers[i]));
         }
     }
 }
@@ -127,7 +155,8 @@ static void look(const uint8_t page[GORDZILA_PAGE_BYTES], uint32_t size_block, u
                                          GORDZILA_PAGE_BYTES, scratch, sizeof scratch, payload, sizeof payload);
     printf("open page %u of size block %u: ", (unsigned)number, (unsigned)size_block);
     if (!gordzila_page_opens(answer)) {
-        refused(gordzila_page_refusal(answer));
+        uint32_t refusal = gordzila_page_refusal(answer);
+        printf("refused with %u, %s\n", (unsigned)refusal, reason(refusal));
     } else if (gordzila_opened_size_block(answer) != size_block || gordzila_opened_page_number(answer) != number) {
         printf("it is page %u of size block %u, and not used\n", (unsigned)gordzila_opened_page_number(answer),
                (unsigned)gordzila_opened_size_block(answer));

@@ -3,7 +3,7 @@
 
 use std::slice;
 
-use gordzila::raw;
+use gordzila::{raw, PageKeys};
 
 use crate::call::Call;
 use crate::lend::{Bytes, Lent};
@@ -105,8 +105,8 @@ fn open_page(lent: &Lent) -> u64 {
     raw::open_page_number(page_keys(lent), lent.rounds, read(lent.block), scratch, out)
 }
 
-fn page_keys<'a>(lent: &Lent) -> raw::KeyPair<'a> {
-    raw::KeyPair {
+fn page_keys<'a>(lent: &Lent) -> PageKeys<'a> {
+    PageKeys {
         first: read(lent.key),
         second: read(lent.second_key),
     }

@@ -3,7 +3,6 @@
 use std::sync::atomic::{AtomicUsize, Ordering};
 use std::sync::Mutex;
 
-use gordzila::{decipher, encipher, Key};
 use gordzila_differential::archive::archive;
 use gordzila_differential::call::{Argument, Argument as A, Call};
 use gordzila_differential::case::Case;
@@ -630,15 +629,13 @@ fn counts_cut_to_a_byte_are_found() {
 /// What a grant deciphers to that is lent for a check.
 fn deciphered(lent: &Lent) -> Option<[u8; 12]> {
     let grant = copied(lent.block).try_into().ok()?;
-    let key = copied(lent.key);
-    Some(decipher(Key::new(&key, lent.rounds).ok()?, &grant))
+    gordzila::decipher(&copied(lent.key), lent.rounds, &grant).ok()
 }
 
 /// What the archive answers to a check if other plain bytes stand in the grant.
 fn answer_with(plain: &[u8; 12], lent: &Lent) -> u64 {
-    let key = copied(lent.key);
-    let key = Key::new(&key, lent.rounds).expect("what was deciphered can be enciphered");
-    let mut grant = encipher(key, plain);
+    let grant = gordzila::encipher(&copied(lent.key), lent.rounds, plain);
+    let mut grant = grant.expect("what was deciphered can be enciphered");
     let mut lent = *lent;
     lent.block.start = grant.as_mut_ptr();
     archive(Call::Check, &lent)

@@ -2,7 +2,6 @@
 
 use std::sync::Mutex;
 
-use gordzila::{decipher, Key};
 use gordzila_differential::call::Call;
 use gordzila_differential::case::Case;
 use gordzila_differential::expect::{needed, Expected};
@@ -175,7 +174,7 @@ fn grants_open_for_both_rights_and_the_ends_of_the_contractors() {
 /// The right byte of what the grant of a check deciphers to, if it is whole but for that byte.
 fn right_in_grant(case: &Case) -> Option<u8> {
     let grant = case.block.as_slice().try_into().ok()?;
-    let plain = decipher(Key::new(&case.key, case.rounds).ok()?, grant);
+    let plain = gordzila::decipher(&case.key, case.rounds, grant).ok()?;
     let contractor = u32::from(plain[0]) << 8 | u32::from(plain[1]);
     let whole = is_contractor(contractor) && plain[9..] == *b"GRD";
     whole.then_some(plain[8])
@@ -418,8 +417,7 @@ fn queues_of_several_contractors_occur() {
         let opened = grants.filter(|pair| *pair.1 == 0);
         let plain = opened.map(|pair| {
             let grant = pair.0.try_into().expect("a grant has 12 bytes");
-            let key = Key::new(&case.key, case.rounds).expect("the key is right");
-            decipher(key, grant)
+            gordzila::decipher(&case.key, case.rounds, grant).expect("the key is right")
         });
         plain.collect::<Vec<[u8; 12]>>()
     };

@@ -2,7 +2,7 @@
 
 use std::collections::BTreeSet;
 
-use gordzila::{encipher, raw};
+use gordzila::raw;
 use gordzila_differential::order::LATE_11;
 use gordzila_differential::pages::{used, PAGE_BYTES, PAYLOAD_BYTES, SCRATCH_BYTES};
 use gordzila_differential::work::page_cases;
@@ -223,8 +223,8 @@ fn filled(case: &Case) -> (usize, Vec<usize>) {
     let prepared = raw::prepare_deciphering_number(&case.key, case.rounds, &mut list);
     assert_eq!(prepared, 0);
     let header = case.block[..12].try_into().expect("a header has 12 bytes");
-    let key = Key::new(&case.key, case.rounds).expect("the key is right");
-    let mut before = encipher(key, header).to_vec();
+    let start = gordzila::encipher(&case.key, case.rounds, header);
+    let mut before = start.expect("the key is right").to_vec();
     let mut payload = Vec::new();
     for block in case.block[12..504].chunks(12) {
         let mut plain = [0; 12];

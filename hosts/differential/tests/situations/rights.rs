@@ -45,7 +45,7 @@ fn changes_of_right_of_every_kind_occur() {
 /// The contractor of the grant of a check, if it is whole.
 fn contractor(case: &Case) -> Option<u32> {
     let grant = case.block.as_slice().try_into().ok()?;
-    let plain = decipher(Key::new(&case.key, case.rounds).ok()?, grant);
+    let plain = gordzila::decipher(&case.key, case.rounds, grant).ok()?;
     Some(u32::from(plain[0]) << 8 | u32::from(plain[1])).filter(|&one| is_contractor(one))
 }
 

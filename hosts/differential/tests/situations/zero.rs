@@ -5,7 +5,7 @@ use super::*;
 /// The size block that the grant of a check names, if it is whole.
 fn named(case: &Case) -> Option<u32> {
     let grant = case.block.as_slice().try_into().ok()?;
-    let plain = decipher(Key::new(&case.key, case.rounds).ok()?, grant);
+    let plain = gordzila::decipher(&case.key, case.rounds, grant).ok()?;
     let bytes = plain[4..8].try_into().expect("these are 4 bytes");
     right_in_grant(case)
         .filter(|right| [1, 2].contains(right))

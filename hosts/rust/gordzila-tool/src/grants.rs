@@ -1,11 +1,10 @@
 //! Grants in a file or on standard input, one a line, as `issue` prints them.
 
 use crate::failure::Failure;
+use crate::options::{trimmed, GRANTS};
 use crate::{hex, input};
 use gordzila::BLOCK_BYTES;
 use std::ffi::OsStr;
-
-const GRANTS: &str = "--grants";
 
 /// The longest text that is read. That is room for far more than the 64 grants of a queue,
 /// so that the library refuses more.
@@ -30,7 +29,7 @@ pub fn read(name: &OsStr) -> Result<Vec<u8>, Failure> {
 fn bytes_of(text: &[u8]) -> Result<Vec<u8>, String> {
     let mut bytes = Vec::new();
     for (number, line) in (1..).zip(text.split(|&byte| byte == b'\n')) {
-        let line = hex::trimmed(line);
+        let line = trimmed(line);
         if !line.is_empty() {
             bytes.extend(grant_of(line).map_err(|why| format!("line {number}: {why}"))?);
         }

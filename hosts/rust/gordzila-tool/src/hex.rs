@@ -22,17 +22,6 @@ pub fn bytes_of(digits: &[u8]) -> Result<Vec<u8>, String> {
         .collect())
 }
 
-/// A text without the white space around it.
-pub fn trimmed(text: &[u8]) -> &[u8] {
-    let is_mark = |byte: &u8| !byte.is_ascii_whitespace();
-    let start = text.iter().position(is_mark).unwrap_or(text.len());
-    let end = text
-        .iter()
-        .rposition(is_mark)
-        .map_or(start, |last| last + 1);
-    &text[start..end]
-}
-
 /// The digits of bytes, in lower case.
 pub fn digits_of(bytes: &[u8]) -> String {
     bytes.iter().map(|byte| format!("{byte:02x}")).collect()
@@ -49,7 +38,7 @@ fn value_of(digit: u8) -> Option<u8> {
 
 #[cfg(test)]
 mod tests {
-    use super::{bytes_of, digits_of, trimmed};
+    use super::{bytes_of, digits_of};
 
     #[test]
     fn every_byte_comes_back_from_its_digits() {
@@ -76,13 +65,5 @@ mod tests {
         for wrong in ["0", "012", "0g", "0x00", "00 11", "00:11", "+1", "é"] {
             assert!(bytes_of(wrong.as_bytes()).is_err(), "{wrong}");
         }
-    }
-
-    #[test]
-    fn white_space_around_digits_is_left_out() {
-        assert_eq!(trimmed(b" \t00 11\r\n"), b"00 11");
-        assert_eq!(trimmed(b"0011"), b"0011");
-        assert_eq!(trimmed(b" \n"), b"");
-        assert_eq!(trimmed(b""), b"");
     }
 }

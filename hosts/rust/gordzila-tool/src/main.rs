@@ -1,39 +1,56 @@
 //! A command-line tool over the proved access-control library, for those who test and
-//! support the store. It has no rule of its own on who may do what: it reads options and
-//! files, makes its calls, and prints what they answer.
+//! support the store. It has no rule of its own: it reads options and files, makes its
+//! calls, and prints what they answer.
 
 #![deny(unsafe_code)]
 
-mod answer;
-mod args;
-mod cli;
-// The only file with unsafe code.
-#[allow(unsafe_code)]
-mod closed;
 mod commands;
 mod failure;
 mod grants;
+mod help;
 mod hex;
 mod input;
-mod keys;
 mod lock;
-mod new_file;
-mod notes;
+mod options;
 mod pages;
 mod printing;
 mod replace;
 mod rolls;
-mod temporary;
-mod usage;
-mod values;
 
-use clap::Parser;
-use cli::Cli;
+use failure::{Answer, Failure};
+use printing::{print, Done};
+use std::env;
+use std::ffi::OsString;
+use std::io::{self, Write};
 use std::process::ExitCode;
 
 fn main() -> ExitCode {
-    match Cli::try_parse() {
-        Ok(cli) => printing::tell(cli.json, commands::run(&cli.command)),
-        Err(error) => usage::tell(&error),
+    let words: Vec<OsString> = env::args_os().skip(1).collect();
+    match done(&words).and_then(print) {
+        Ok(()) => ExitCode::SUCCESS,
+        Err(failure) => {
+            // If standard error is closed too, the exit status still tells.
+            let _ = writeln!(io::stderr(), "{failure}");
+            ExitCode::from(failure.status())
+        }
     }
+}
+
+/// Does what the words after the tool's name ask for.
+fn done(words: &[OsString]) -> Result<Done, Failure> {
+    let (first, rest) = words
+        .split_first()
+        .ok_or_else(|| Failure::usage("a subcommand is missing"))?;
+    match first.to_str() {
+        Some("help" | "--help") => help::wanted(rest).map(Done::Told),
+        Some("--version") => version(rest).map(Done::Told),
+        _ => commands::run(first, rest),
+    }
+}
+
+fn version(rest: &[OsString]) -> Answer {
+    if !rest.is_empty() {
+        return Err(Failure::usage("--version stands alone"));
+    }
+    Ok(format!("gordzila {}\n", env!("CARGO_PKG_VERSION")))
 }

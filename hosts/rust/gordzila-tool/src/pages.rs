@@ -2,12 +2,15 @@
 
 use crate::failure::Failure;
 use crate::input;
-use crate::new_file::NewFile;
+use crate::options::{PAGE, PAYLOAD};
+use crate::replace;
 use gordzila::{PAGE_BYTES, PAYLOAD_BYTES};
 use std::ffi::OsStr;
+use std::path::Path;
 
-const PAGE: &str = "--page";
-const PAYLOAD: &str = "--payload";
+/// Who may open a new file, before the umask: all, or the owner alone.
+const ALL: u32 = 0o666;
+const OWNER: u32 = 0o600;
 
 /// The payload in a file or on standard input. Of one that is too long a byte more than it
 /// may have is read, so that the library refuses it.
@@ -20,12 +23,19 @@ pub fn read_page(name: &OsStr) -> Result<Vec<u8>, Failure> {
     input::read(PAGE, name, PAGE_BYTES + 1)
 }
 
-/// A new file for a page.
-pub fn new_page(name: &OsStr) -> Result<NewFile<'_>, Failure> {
-    NewFile::for_all(PAGE, name)
+/// Writes a page to a new file.
+pub fn write_page(path: &Path, page: &[u8]) -> Result<(), Failure> {
+    write(PAGE, path, page, ALL)
 }
 
-/// A new file for a payload, which its owner alone may open: it was sealed.
-pub fn new_payload(name: &OsStr) -> Result<NewFile<'_>, Failure> {
-    NewFile::for_owner(PAYLOAD, name)
+/// Writes a payload to a new file, which its owner alone may open: it was sealed.
+pub fn write_payload(path: &Path, payload: &[u8]) -> Result<(), Failure> {
+    write(PAYLOAD, path, payload, OWNER)
+}
+
+/// A file that exists is not replaced: it may be the only copy of another page.
+fn write(option: &str, path: &Path, bytes: &[u8], mode: u32) -> Result<(), Failure> {
+    replace::new_target(path)
+        .and_then(|target| replace::make(&target, bytes, mode))
+        .map_err(|error| Failure::file(option, path, error))
 }

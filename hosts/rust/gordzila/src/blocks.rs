@@ -1,8 +1,8 @@
 //! Numbers of size blocks.
 
 use crate::Reason;
-use core::fmt;
-use core::num::NonZeroU32;
+use std::fmt;
+use std::num::NonZeroU32;
 
 /// The number of a size block that can be asked for: any but 0, which was for practice.
 ///

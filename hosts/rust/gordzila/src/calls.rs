@@ -1,10 +1,7 @@
-//! The calls with types that leave out what cannot be meant: blocks and grants have 12 bytes,
-//! keys go with their round counts, rolls are rolls, rights are two, contractors and size
-//! blocks have their numbers, and outputs are returned.
+//! The calls with types that leave out what cannot be meant: blocks have 12 bytes,
+//! rolls are rolls, rights are two, size blocks are not 0, and outputs are returned.
 
-use crate::lists::LONGEST_LIST;
-use crate::{raw, sys, Contractor, Grant, Key, Opened, Reason, Right, Roll, SizeBlock};
-use crate::{SubkeyList, Verdicts, QUEUE_MOST_GRANTS};
+use crate::{raw, Opened, Reason, Right, Roll, SizeBlock};
 
 /// How many bytes a block, a grant and a subkey have.
 pub const BLOCK_BYTES: usize = 12;
@@ -12,66 +9,57 @@ pub const BLOCK_BYTES: usize = 12;
 /// How many bytes a stage is given as, whatever the key's length.
 pub const STAGE_BYTES: usize = 24;
 
-/// Enciphers one block.
+/// How many grants [`check_queue`] takes at most.
+pub const QUEUE_MOST_GRANTS: usize = 64;
+
+/// How many bytes the longest subkey list has: 24 subkeys.
+const LONGEST_LIST: usize = 24 * BLOCK_BYTES;
+
+/// Enciphers one block. Refuses with [`Reason::KeyLength`] or [`Reason::RoundCount`].
 ///
 /// ```
-/// use gordzila::{decipher, encipher, Key};
-///
-/// let key = Key::new(&[0, 1, 2, 3, 4, 5, 6, 7, 8, 9, 10, 11], 10)?;
+/// let key = [0, 1, 2, 3, 4, 5, 6, 7, 8, 9, 10, 11];
 /// let block = *b"\x00\x11\x22\x33\x44\x55\x66\x77\x88\x99\xaa\xbb";
-/// let enciphered = encipher(key, &block);
+/// let enciphered = gordzila::encipher(&key, 10, &block)?;
 /// assert_eq!(enciphered, *b"\x6e\xdf\x4c\x9c\xc8\x21\x9e\xc4\x03\xe5\x8e\xc8");
-/// assert_eq!(decipher(key, &enciphered), block);
+/// assert_eq!(gordzila::decipher(&key, 10, &enciphered)?, block);
 /// # Ok::<(), gordzila::Reason>(())
 /// ```
-///
-/// # Panics
-///
-/// It panics where the library refuses a key that it took before. That takes an archive that
-/// does not belong to this package.
-pub fn encipher(key: Key<'_>, block: &[u8; BLOCK_BYTES]) -> [u8; BLOCK_BYTES] {
-    unrefused(written(|out| {
-        raw::encipher(key.bytes(), key.rounds(), block, out)
-    }))
+pub fn encipher(
+    key: &[u8],
+    rounds: u32,
+    block: &[u8; BLOCK_BYTES],
+) -> Result<[u8; BLOCK_BYTES], Reason> {
+    written(|out| raw::encipher(key, rounds, block, out))
 }
 
-/// Deciphers one block.
-///
-/// # Panics
-///
-/// It panics where [`encipher`] does.
-pub fn decipher(key: Key<'_>, block: &[u8; BLOCK_BYTES]) -> [u8; BLOCK_BYTES] {
-    unrefused(written(|out| {
-        raw::decipher(key.bytes(), key.rounds(), block, out)
-    }))
+/// Deciphers one block. Refuses with [`Reason::KeyLength`] or [`Reason::RoundCount`].
+pub fn decipher(
+    key: &[u8],
+    rounds: u32,
+    block: &[u8; BLOCK_BYTES],
+) -> Result<[u8; BLOCK_BYTES], Reason> {
+    written(|out| raw::decipher(key, rounds, block, out))
 }
 
-/// The subkey list for enciphering, which [`run`] takes.
+/// The subkey list for enciphering: 12 (`rounds` + 1) bytes, which [`run`] takes.
+/// Refuses with [`Reason::KeyLength`] or [`Reason::RoundCount`].
 ///
 /// ```
-/// use gordzila::{encipher, prepare_enciphering, run, Key};
-///
-/// let (key, block) = (Key::new(&[3; 18], 14)?, [5; 12]);
-/// let list = prepare_enciphering(key);
+/// let (key, block) = ([3; 18], [5; 12]);
+/// let list = gordzila::prepare_enciphering(&key, 14)?;
 /// assert_eq!(list.len(), 12 * 15);
-/// assert_eq!(run(&list, &block)?, encipher(key, &block));
+/// assert_eq!(gordzila::run(&list, &block)?, gordzila::encipher(&key, 14, &block)?);
 /// # Ok::<(), gordzila::Reason>(())
 /// ```
-///
-/// # Panics
-///
-/// It panics where [`encipher`] does.
-pub fn prepare_enciphering(key: Key<'_>) -> SubkeyList {
-    prepared(key, raw::prepare_enciphering)
+pub fn prepare_enciphering(key: &[u8], rounds: u32) -> Result<Vec<u8>, Reason> {
+    prepared(rounds, |out| raw::prepare_enciphering(key, rounds, out))
 }
 
-/// The subkey list for deciphering, which [`run`] takes.
-///
-/// # Panics
-///
-/// It panics where [`encipher`] does.
-pub fn prepare_deciphering(key: Key<'_>) -> SubkeyList {
-    prepared(key, raw::prepare_deciphering)
+/// The subkey list for deciphering: 12 (`rounds` + 1) bytes, which [`run`] takes.
+/// Refuses with [`Reason::KeyLength`] or [`Reason::RoundCount`].
+pub fn prepare_deciphering(key: &[u8], rounds: u32) -> Result<Vec<u8>, Reason> {
+    prepared(rounds, |out| raw::prepare_deciphering(key, rounds, out))
 }
 
 /// Runs the engine over a list of 11 to 24 subkeys, whether a key gives it or not.
@@ -82,44 +70,44 @@ pub fn run(list: &[u8], block: &[u8; BLOCK_BYTES]) -> Result<[u8; BLOCK_BYTES], 
 
 /// Issues a grant to a contractor in the standing that the roll has for them, for a right up
 /// to their highest. A grant for overwriting also opens its size block for reading, so that
-/// nobody needs one of each. Refuses with [`Reason::NotInStanding`] or
-/// [`Reason::AboveHighest`].
+/// nobody needs one of each. Refuses with [`Reason::KeyLength`], [`Reason::RoundCount`],
+/// [`Reason::Contractor`], [`Reason::NotInStanding`] or [`Reason::AboveHighest`].
 ///
 /// ```
-/// use gordzila::{check, issue, Contractor, Key, Opened, Reason, Right, Roll, SizeBlock};
+/// use gordzila::{Opened, Reason, Right, Roll, SizeBlock};
 ///
-/// let (key, block) = (Key::new(&[9; 12], 10)?, SizeBlock::try_from(300)?);
-/// let (mut roll, contractor) = (Roll::empty(), Contractor::try_from(7)?);
-/// roll.enter(contractor, Right::Reading)?;
-/// let grant = issue(key, &roll, contractor, block, Right::Reading)?;
-/// let refused = issue(key, &roll, contractor, block, Right::Overwriting);
+/// let (key, rounds, block) = ([9; 12], 10, SizeBlock::try_from(300)?);
+/// let mut roll = Roll::empty();
+/// roll.enter(7, Right::Reading)?;
+/// let grant = gordzila::issue(&key, rounds, &roll, 7, block, Right::Reading)?;
+/// let refused = gordzila::issue(&key, rounds, &roll, 7, block, Right::Overwriting);
 /// assert_eq!(refused, Err(Reason::AboveHighest));
 ///
-/// let opened = check(key, &roll, &grant, block, Right::Reading)?;
-/// assert_eq!(opened, Opened { contractor, right: Right::Reading });
+/// let opened = gordzila::check(&key, rounds, &roll, &grant, block, Right::Reading)?;
+/// assert_eq!(opened, Opened { contractor: 7, right: Right::Reading });
 ///
-/// roll.withdraw(contractor)?;
-/// let refused = check(key, &roll, &grant, block, Right::Reading);
+/// roll.withdraw(7)?;
+/// let refused = gordzila::check(&key, rounds, &roll, &grant, block, Right::Reading);
 /// assert_eq!(refused, Err(Reason::NotInStanding));
 /// # Ok::<(), Reason>(())
 /// ```
 pub fn issue(
-    key: Key<'_>,
+    key: &[u8],
+    rounds: u32,
     roll: &Roll,
-    contractor: Contractor,
+    contractor: u32,
     size_block: SizeBlock,
     right: Right,
-) -> Result<Grant, Reason> {
-    let (bytes, rounds, roll) = (key.bytes(), key.rounds(), roll.bytes());
-    let (contractor, block, right) = (contractor.number(), size_block.number(), right.number());
-    let issued: [u8; BLOCK_BYTES] =
-        written(|out| raw::issue(bytes, rounds, roll, contractor, block, right, out))?;
-    Ok(Grant::from(issued))
+) -> Result<[u8; BLOCK_BYTES], Reason> {
+    let (roll, block, right) = (roll.bytes(), size_block.number(), right.number());
+    written(|out| raw::issue(key, rounds, roll, contractor, block, right, out))
 }
 
-/// Checks a grant for one size block and one right. Refuses with [`Reason::NotAGrant`],
-/// [`Reason::OtherBlock`], [`Reason::OtherRight`], [`Reason::NotInStanding`],
-/// [`Reason::OtherCount`] or [`Reason::AboveHighest`].
+/// Checks a grant for one size block and one right. The grant may have any length: it
+/// comes from outside. Refuses with [`Reason::KeyLength`], [`Reason::RoundCount`],
+/// [`Reason::InputLength`], [`Reason::NotAGrant`], [`Reason::OtherBlock`],
+/// [`Reason::OtherRight`], [`Reason::NotInStanding`], [`Reason::OtherCount`] or
+/// [`Reason::AboveHighest`].
 ///
 /// A grant for overwriting opens for reading too, and the answer has the right that was
 /// asked for. Overwriting asked of a reading grant is [`Reason::OtherRight`]; asked of an
@@ -129,31 +117,31 @@ pub fn issue(
 /// [`Reason::OtherBlock`], whichever is asked for, where no other reason comes first.
 ///
 /// ```
-/// use gordzila::{check, issue, Contractor, Key, Opened, Reason, Right, Roll, SizeBlock};
+/// use gordzila::{check, issue, Opened, Reason, Right, Roll, SizeBlock};
 ///
-/// let (key, block) = (Key::new(&[9; 12], 10)?, SizeBlock::try_from(300)?);
-/// let (mut roll, contractor) = (Roll::empty(), Contractor::try_from(7)?);
-/// roll.enter(contractor, Right::Overwriting)?;
+/// let (key, rounds, block) = (&[9; 12], 10, SizeBlock::try_from(300)?);
+/// let mut roll = Roll::empty();
+/// roll.enter(7, Right::Overwriting)?;
 ///
-/// let overwriting = issue(key, &roll, contractor, block, Right::Overwriting)?;
-/// let opened = check(key, &roll, &overwriting, block, Right::Reading)?;
-/// assert_eq!(opened, Opened { contractor, right: Right::Reading });
+/// let overwriting = issue(key, rounds, &roll, 7, block, Right::Overwriting)?;
+/// let opened = check(key, rounds, &roll, &overwriting, block, Right::Reading)?;
+/// assert_eq!(opened, Opened { contractor: 7, right: Right::Reading });
 ///
-/// let reading = issue(key, &roll, contractor, block, Right::Reading)?;
-/// let refused = check(key, &roll, &reading, block, Right::Overwriting);
+/// let reading = issue(key, rounds, &roll, 7, block, Right::Reading)?;
+/// let refused = check(key, rounds, &roll, &reading, block, Right::Overwriting);
 /// assert_eq!(refused, Err(Reason::OtherRight));
 /// # Ok::<(), Reason>(())
 /// ```
 pub fn check(
-    key: Key<'_>,
+    key: &[u8],
+    rounds: u32,
     roll: &Roll,
-    grant: &Grant,
+    grant: &[u8],
     size_block: SizeBlock,
     right: Right,
 ) -> Result<Opened, Reason> {
-    let (bytes, rounds, roll) = (key.bytes(), key.rounds(), roll.bytes());
     let (block, right) = (size_block.number(), right.number());
-    raw::check(bytes, rounds, roll, grant.bytes(), block, right)
+    raw::check(key, rounds, roll.bytes(), grant, block, right)
 }
 
 /// Checks a queue of 0 to 64 grants ([`QUEUE_MOST_GRANTS`]) for one size block and one
@@ -161,31 +149,33 @@ pub fn check(
 /// opens, else the reason with which [`check`] refuses it. A grant that is refused does not
 /// stop those after it.
 ///
-/// The whole queue is refused, with no verdict, for more than 64 grants, with
-/// [`Reason::InputLength`]. So `?` on the whole does not say that a grant opens: look at its
-/// verdict. Who needs the contractor hands that grant to [`check`].
+/// The whole queue is refused, with no verdict, with [`Reason::KeyLength`],
+/// [`Reason::RoundCount`] or, for more than 64 grants, [`Reason::InputLength`]. So `?` on
+/// the whole does not say that a grant opens: look at its verdict. Who needs the contractor
+/// hands that grant to [`check`].
 ///
 /// ```
-/// use gordzila::{check_queue, issue, Contractor, Grant, Key, Reason, Right, Roll, SizeBlock};
+/// use gordzila::{check_queue, issue, Reason, Right, Roll, SizeBlock};
 ///
-/// let (key, block) = (Key::new(&[9; 12], 10)?, SizeBlock::try_from(300)?);
-/// let (mut roll, contractor) = (Roll::empty(), Contractor::try_from(7)?);
-/// roll.enter(contractor, Right::Overwriting)?;
-/// let overwriting = issue(key, &roll, contractor, block, Right::Overwriting)?;
-/// let reading = issue(key, &roll, contractor, block, Right::Reading)?;
+/// let (key, rounds, block) = (&[9; 12], 10, SizeBlock::try_from(300)?);
+/// let mut roll = Roll::empty();
+/// roll.enter(7, Right::Overwriting)?;
+/// let overwriting = issue(key, rounds, &roll, 7, block, Right::Overwriting)?;
+/// let reading = issue(key, rounds, &roll, 7, block, Right::Reading)?;
 ///
-/// let pile = [reading, Grant::from([0; 12]), overwriting];
-/// let verdicts = check_queue(key, &roll, &pile, block, Right::Overwriting)?;
-/// assert_eq!(*verdicts, [Err(Reason::OtherRight), Err(Reason::NotAGrant), Ok(())]);
+/// let pile = [reading, [0; 12], overwriting];
+/// let verdicts = check_queue(key, rounds, &roll, &pile, block, Right::Overwriting)?;
+/// assert_eq!(verdicts, [Err(Reason::OtherRight), Err(Reason::NotAGrant), Ok(())]);
 ///
 /// // The grants that open, of a pile of any length.
 /// for pile in pile.chunks(gordzila::QUEUE_MOST_GRANTS) {
-///     let verdicts = check_queue(key, &roll, pile, block, Right::Overwriting)?;
+///     let verdicts = check_queue(key, rounds, &roll, pile, block, Right::Overwriting)?;
 ///     let opens = pile.iter().zip(verdicts).filter(|(_, verdict)| verdict.is_ok());
 ///     assert!(opens.map(|(grant, _)| grant).eq([&overwriting]));
 /// }
 ///
-/// let refused = check_queue(key, &roll, &[overwriting; 65], block, Right::Overwriting);
+/// let pile = [overwriting; 65];
+/// let refused = check_queue(key, rounds, &roll, &pile, block, Right::Overwriting);
 /// assert_eq!(refused, Err(Reason::InputLength));
 /// # Ok::<(), Reason>(())
 /// ```
@@ -196,22 +186,24 @@ pub fn check(
 /// takes an archive that does not belong to this package. [`raw::check_queue`] leaves the
 /// numbers as they are.
 pub fn check_queue(
-    key: Key<'_>,
+    key: &[u8],
+    rounds: u32,
     roll: &Roll,
-    grants: &[Grant],
+    grants: &[[u8; BLOCK_BYTES]],
     size_block: SizeBlock,
     right: Right,
-) -> Result<Verdicts, Reason> {
+) -> Result<Vec<Result<(), Reason>>, Reason> {
     // A byte that the library did not write would open nothing.
-    let mut answers = [u8::MAX; QUEUE_MOST_GRANTS];
-    let (bytes, rounds, roll) = (key.bytes(), key.rounds(), roll.bytes());
-    let (pile, block, right) = (
-        sys::grant_bytes(grants),
-        size_block.number(),
-        right.number(),
-    );
-    raw::check_queue(bytes, rounds, roll, pile, block, right, &mut answers)?;
-    Ok(Verdicts::of(&answers[..grants.len()]))
+    let mut answers = vec![u8::MAX; grants.len()];
+    let (roll, grants) = (roll.bytes(), grants.concat());
+    let (block, right) = (size_block.number(), right.number());
+    raw::check_queue(key, rounds, roll, &grants, block, right, &mut answers)?;
+    Ok(answers.into_iter().map(verdict).collect())
+}
+
+/// What a byte of the queue's answers says of its grant.
+fn verdict(byte: u8) -> Result<(), Reason> {
+    raw::done(byte.into())
 }
 
 /// A key's stage `n`, below the key's length: as many bytes as the key, then zeros.
@@ -234,11 +226,9 @@ pub fn stage(key: &[u8], n: u32) -> Result<[u8; STAGE_BYTES], Reason> {
 /// [`Reason::KeyLength`] or [`Reason::StageOrList`].
 ///
 /// ```
-/// use gordzila::{prepare_enciphering, subkey, Key};
-///
 /// let key = [7; 24];
-/// let list = prepare_enciphering(Key::new(&key, 23)?);
-/// assert_eq!(subkey(&key, 23)?, list[12 * 23..]);
+/// let list = gordzila::prepare_enciphering(&key, 23)?;
+/// assert_eq!(gordzila::subkey(&key, 23)?, list[12 * 23..]);
 /// # Ok::<(), gordzila::Reason>(())
 /// ```
 pub fn subkey(key: &[u8], n: u32) -> Result<[u8; BLOCK_BYTES], Reason> {
@@ -254,17 +244,31 @@ pub(crate) fn written<const LENGTH: usize>(
     Ok(out)
 }
 
-/// A call that writes the subkey list of a key with a round count.
-type Prepare = fn(&[u8], u32, &mut [u8]) -> Result<(), Reason>;
-
-/// The list that a call writes. The rounds are at most 23, and the list has as many subkeys
-/// and one more.
-fn prepared(key: Key<'_>, call: Prepare) -> SubkeyList {
-    let list: [u8; LONGEST_LIST] = unrefused(written(|out| call(key.bytes(), key.rounds(), out)));
-    SubkeyList::of(list, key.rounds())
+/// The list that a call writes. Where it does not refuse, the rounds are at most 23,
+/// and the list has as many subkeys and one more.
+fn prepared(
+    rounds: u32,
+    call: impl FnOnce(&mut [u8]) -> Result<(), Reason>,
+) -> Result<Vec<u8>, Reason> {
+    let list = written::<LONGEST_LIST>(call)?;
+    Ok(list[..BLOCK_BYTES * (rounds as usize + 1)].to_vec())
 }
 
-/// What a call gives that does not refuse a key with its round count.
-fn unrefused<T>(given: Result<T, Reason>) -> T {
-    given.unwrap_or_else(|reason| panic!("the library refused a key that it took: {reason}"))
+#[cfg(test)]
+mod tests {
+    use super::verdict;
+    use crate::Reason;
+
+    #[test]
+    fn only_0_opens_and_other_bytes_are_reasons() {
+        for byte in 0..=u8::MAX {
+            let said = std::panic::catch_unwind(|| verdict(byte));
+            match Reason::from_number(byte.into()) {
+                Some(reason) => assert_eq!(said.unwrap(), Err(reason)),
+                // A number that the header does not have is not taken for anything.
+                None if byte > 0 => assert!(said.is_err(), "{byte}"),
+                None => assert_eq!(said.unwrap(), Ok(())),
+            }
+        }
+    }
 }

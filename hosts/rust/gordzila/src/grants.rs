@@ -1,7 +1,6 @@
-//! Rights, grants, and what a check answers where a grant opens.
+//! Rights, and what a check answers where a grant opens.
 
-use crate::{Contractor, Reason, BLOCK_BYTES};
-use core::fmt;
+use std::fmt;
 
 /// What a grant lets its contractor do with a size block, what a check asks for, and what
 /// the roll lets a contractor do at most. A grant for overwriting also opens its size block
@@ -47,72 +46,11 @@ impl fmt::Display for Right {
     }
 }
 
-/// A grant: 12 bytes, which [`issue`](crate::issue) gives and [`check`](crate::check) takes.
-///
-/// Any 12 bytes may be handed over as one, because grants come from outside: the check says
-/// what they are. `try_from` gives [`Reason::InputLength`] for bytes of any other length.
-///
-/// A grant opens for whoever has its bytes, so that `{:?}` does not show them, and `{}` is not
-/// there. Who stores a grant or sends it asks for [`Grant::bytes`].
-///
-/// ```
-/// use gordzila::{Grant, Reason};
-///
-/// let grant = Grant::from([171; 12]);
-/// assert_eq!(grant.bytes(), &[171; 12]);
-/// assert_eq!(format!("{grant:?}"), "Grant { .. }");
-///
-/// let stored: &[u8] = &[171; 13];
-/// assert_eq!(Grant::try_from(&stored[..12]), Ok(grant));
-/// assert_eq!(Grant::try_from(stored), Err(Reason::InputLength));
-/// ```
-// It has the bytes and nothing else, which sys.rs relies on.
-#[repr(transparent)]
-#[derive(Clone, Copy, PartialEq, Eq, Hash)]
-pub struct Grant([u8; BLOCK_BYTES]);
-
-impl Grant {
-    /// The bytes. Whoever has them has the grant.
-    pub const fn bytes(&self) -> &[u8; BLOCK_BYTES] {
-        &self.0
-    }
-}
-
-impl From<[u8; BLOCK_BYTES]> for Grant {
-    fn from(bytes: [u8; BLOCK_BYTES]) -> Grant {
-        Grant(bytes)
-    }
-}
-
-/// Refuses what is not 12 bytes, as the calls of [`raw`](crate::raw) do, with
-/// [`Reason::InputLength`].
-impl TryFrom<&[u8]> for Grant {
-    type Error = Reason;
-
-    fn try_from(bytes: &[u8]) -> Result<Grant, Reason> {
-        let bytes = <[u8; BLOCK_BYTES]>::try_from(bytes);
-        bytes.map(Grant).map_err(|_| Reason::InputLength)
-    }
-}
-
-impl AsRef<[u8]> for Grant {
-    fn as_ref(&self) -> &[u8] {
-        &self.0
-    }
-}
-
-/// That it is a grant. The bytes are left out.
-impl fmt::Debug for Grant {
-    fn fmt(&self, formatter: &mut fmt::Formatter<'_>) -> fmt::Result {
-        formatter.debug_struct("Grant").finish_non_exhaustive()
-    }
-}
-
 /// What a check answers where a grant opens.
 #[derive(Clone, Copy, Debug, PartialEq, Eq)]
 pub struct Opened {
-    /// The contractor to whom the grant was issued.
-    pub contractor: Contractor,
+    /// The contractor to whom the grant was issued, 1 to 200.
+    pub contractor: u32,
     /// The right that was asked for, and not the grant's: a grant for overwriting that is
     /// asked for reading has [`Right::Reading`] here.
     pub right: Right,
@@ -120,8 +58,7 @@ pub struct Opened {
 
 #[cfg(test)]
 mod tests {
-    use super::{Grant, Right};
-    use crate::Reason;
+    use super::Right;
 
     #[test]
     fn every_right_is_found_by_its_number() {
@@ -143,30 +80,5 @@ mod tests {
     fn a_right_has_a_word() {
         assert_eq!(Right::Reading.to_string(), "reading");
         assert_eq!(Right::Overwriting.to_string(), "overwriting");
-    }
-
-    #[test]
-    fn a_grant_has_its_12_bytes() {
-        let bytes = [0, 1, 2, 3, 4, 5, 6, 7, 8, 9, 10, 255];
-        let grant = Grant::from(bytes);
-        assert_eq!(*grant.bytes(), bytes);
-        assert_eq!(grant.as_ref(), bytes);
-        assert_eq!(Grant::try_from(&bytes[..]), Ok(grant));
-        assert_ne!(Grant::from([0; 12]), grant);
-    }
-
-    #[test]
-    fn other_lengths_are_no_grant() {
-        for length in (0..=11).chain(13..=30) {
-            let refused = Grant::try_from(&[1; 30][..length]);
-            assert_eq!(refused, Err(Reason::InputLength), "{length}");
-        }
-    }
-
-    #[test]
-    fn a_grant_is_not_shown() {
-        assert_eq!(format!("{:?}", Grant::from([171; 12])), "Grant { .. }");
-        let lines = format!("{:#?}", Grant::from([171; 12]));
-        assert_eq!(lines.split_whitespace().count(), 4);
     }
 }

@@ -2,7 +2,7 @@
 
 use crate::calls::written;
 use crate::{raw, Reason, Walked, BLOCK_BYTES};
-use core::fmt;
+use std::fmt;
 
 /// How many bytes a key holder has.
 pub const HOLDER_BYTES: usize = 26;

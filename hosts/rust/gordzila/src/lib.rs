@@ -8,35 +8,34 @@
 //! A day in the life of a grant:
 //!
 //! ```
-//! use gordzila::{check, issue, Contractor, Key, Opened, Reason, Right, Roll, SizeBlock};
+//! use gordzila::{check, issue, Opened, Reason, Right, Roll, SizeBlock};
 //!
-//! let key = Key::new(&[42; 24], 18)?;
-//! let (contractor, size_block) = (Contractor::try_from(7)?, SizeBlock::try_from(300)?);
+//! let (key, rounds, size_block) = (&[42; 24], 18, SizeBlock::try_from(300)?);
 //! let mut roll = Roll::empty();
-//! roll.enter(contractor, Right::Overwriting)?;
-//! let grant = issue(key, &roll, contractor, size_block, Right::Overwriting)?;
+//! roll.enter(7, Right::Overwriting)?;
+//! let grant = issue(key, rounds, &roll, 7, size_block, Right::Overwriting)?;
 //!
 //! // The grant is for overwriting, and opens for looking at the size block first.
 //! for right in [Right::Reading, Right::Overwriting] {
 //!     assert_eq!(
-//!         check(key, &roll, &grant, size_block, right),
-//!         Ok(Opened { contractor, right })
+//!         check(key, rounds, &roll, &grant, size_block, right),
+//!         Ok(Opened { contractor: 7, right })
 //!     );
 //! }
 //!
 //! // The contractor is demoted: they may still look, but not overwrite.
-//! roll.change_right(contractor, Right::Reading)?;
+//! roll.change_right(7, Right::Reading)?;
 //! assert_eq!(
-//!     check(key, &roll, &grant, size_block, Right::Overwriting),
+//!     check(key, rounds, &roll, &grant, size_block, Right::Overwriting),
 //!     Err(Reason::AboveHighest)
 //! );
-//! assert!(check(key, &roll, &grant, size_block, Right::Reading).is_ok());
+//! assert!(check(key, rounds, &roll, &grant, size_block, Right::Reading).is_ok());
 //!
 //! // The contractor is dropped and later taken on again: the old grant stays shut.
-//! roll.withdraw(contractor)?;
-//! roll.enter(contractor, Right::Overwriting)?;
+//! roll.withdraw(7)?;
+//! roll.enter(7, Right::Overwriting)?;
 //! assert_eq!(
-//!     check(key, &roll, &grant, size_block, Right::Overwriting),
+//!     check(key, rounds, &roll, &grant, size_block, Right::Overwriting),
 //!     Err(Reason::OtherCount)
 //! );
 //! # Ok::<(), Reason>(())
@@ -56,118 +55,34 @@
 //!
 //! The calls keep no state and may be made from any thread. Their time depends on the
 //! key and the data: they are not made to resist an observer of time.
-//!
-//! # What cannot be swapped
-//!
-//! Numbers and bytes that come from outside become a [`Key`], [`PageKeys`], a [`Contractor`],
-//! a [`SizeBlock`], a [`PageNumber`] or a [`Grant`] where they come in, and nothing takes one
-//! for another:
-//!
-//! ```
-//! # use gordzila::{check, encipher, issue, Contractor, Key, Right, Roll, SizeBlock};
-//! # let (key, mut roll) = (Key::new(&[42; 24], 18)?, Roll::empty());
-//! # let (contractor, size_block) = (Contractor::try_from(7)?, SizeBlock::try_from(300)?);
-//! # roll.enter(contractor, Right::Reading)?;
-//! let grant = issue(key, &roll, contractor, size_block, Right::Reading)?;
-//! let opened = check(key, &roll, &grant, size_block, Right::Reading)?;
-//! let enciphered = encipher(key, &[5; 12]);
-//! # Ok::<(), gordzila::Reason>(())
-//! ```
-//!
-//! What was meant the other way round does not compile,
-//!
-//! ```compile_fail,E0308
-//! # use gordzila::{check, encipher, issue, Contractor, Key, Right, Roll, SizeBlock};
-//! # let (key, mut roll) = (Key::new(&[42; 24], 18)?, Roll::empty());
-//! # let (contractor, size_block) = (Contractor::try_from(7)?, SizeBlock::try_from(300)?);
-//! # roll.enter(contractor, Right::Reading)?;
-//! let grant = issue(key, &roll, size_block, contractor, Right::Reading)?;
-//! # Ok::<(), gordzila::Reason>(())
-//! ```
-//!
-//! nor does a bare number,
-//!
-//! ```compile_fail,E0308
-//! # use gordzila::{check, encipher, issue, Contractor, Key, Right, Roll, SizeBlock};
-//! # let (key, mut roll) = (Key::new(&[42; 24], 18)?, Roll::empty());
-//! # let (contractor, size_block) = (Contractor::try_from(7)?, SizeBlock::try_from(300)?);
-//! # roll.enter(contractor, Right::Reading)?;
-//! let grant = issue(key, &roll, 7, size_block, Right::Reading)?;
-//! # Ok::<(), gordzila::Reason>(())
-//! ```
-//!
-//! ```compile_fail,E0308
-//! # use gordzila::{check, encipher, issue, Contractor, Key, Right, Roll, SizeBlock};
-//! # let (key, mut roll) = (Key::new(&[42; 24], 18)?, Roll::empty());
-//! # let contractor = Contractor::try_from(7)?;
-//! roll.enter(7, Right::Reading)?;
-//! # Ok::<(), gordzila::Reason>(())
-//! ```
-//!
-//! nor do bare bytes, as a grant or as a key:
-//!
-//! ```compile_fail,E0308
-//! # use gordzila::{check, encipher, issue, Contractor, Key, Right, Roll, SizeBlock};
-//! # let (key, mut roll) = (Key::new(&[42; 24], 18)?, Roll::empty());
-//! # let (contractor, size_block) = (Contractor::try_from(7)?, SizeBlock::try_from(300)?);
-//! # roll.enter(contractor, Right::Reading)?;
-//! let opened = check(key, &roll, &[5; 12], size_block, Right::Reading)?;
-//! # Ok::<(), gordzila::Reason>(())
-//! ```
-//!
-//! ```compile_fail,E0308
-//! # use gordzila::{check, encipher, issue, Contractor, Key, Right, Roll, SizeBlock};
-//! let enciphered = encipher(&[42; 24], &[5; 12]);
-//! # Ok::<(), gordzila::Reason>(())
-//! ```
-//!
-//! # Without the standard library
-//!
-//! The package needs neither the standard library nor an allocator. The feature `std`, which
-//! is on unless `default-features = false` says otherwise, only makes [`Reason`] a
-//! `std::error::Error`.
 
-#![cfg_attr(not(test), no_std)]
 #![deny(unsafe_code)]
 #![warn(missing_docs, clippy::undocumented_unsafe_blocks)]
 
-#[cfg(feature = "std")]
-extern crate std;
-
 mod blocks;
 mod calls;
-mod contractors;
 mod grants;
 mod holder;
-mod keys;
-mod lists;
 mod pages;
 pub mod raw;
 mod reason;
-mod reasons;
 mod roll;
 // The only file with unsafe code.
 #[allow(unsafe_code)]
 mod sys;
-mod verdicts;
 mod walks;
 
 pub use blocks::SizeBlock;
 pub use calls::{
     check, check_queue, decipher, encipher, issue, prepare_deciphering, prepare_enciphering, run,
-    stage, subkey, BLOCK_BYTES, STAGE_BYTES,
+    stage, subkey, BLOCK_BYTES, QUEUE_MOST_GRANTS, STAGE_BYTES,
 };
-pub use contractors::{Contractor, CONTRACTORS};
-pub use grants::{Grant, Opened, Right};
+pub use grants::{Opened, Right};
 pub use holder::{KeyHolder, HOLDER_BYTES};
-pub use keys::{Key, PageKeys};
-pub use lists::SubkeyList;
 pub use pages::{
-    open_page, seal_page, OpenedPage, PageHeader, PageNumber, PAGE_BYTES, PAYLOAD_BYTES,
+    open_page, seal_page, OpenedPage, PageHeader, PageKeys, PAGE_BYTES, PAYLOAD_BYTES,
     SCRATCH_BYTES,
 };
-pub use reasons::Reason;
-pub use roll::{Roll, OLD_ROLL_BYTES, ROLL_BYTES};
-pub use sys::wipe_stack;
-pub use verdicts::{Verdicts, QUEUE_MOST_GRANTS};
+pub use reason::Reason;
+pub use roll::{Roll, CONTRACTORS, OLD_ROLL_BYTES, ROLL_BYTES};
 pub use walks::{Walked, Way};

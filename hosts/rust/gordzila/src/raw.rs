@@ -24,7 +24,6 @@
 //! The calls that give a `Result` panic where the library answers a number that the
 //! header does not have. That takes an archive that does not belong to this package.
 
-pub use crate::keys::KeyPair;
 pub use crate::sys::{
     change_right_number, check_number, check_queue_number, decipher_number, empty_roll_number,
     encipher_number, enter_number, holder_back_number, holder_forward_number, holder_make_number,
@@ -32,7 +31,7 @@ pub use crate::sys::{
     prepare_deciphering_number, prepare_enciphering_number, run_number, seal_page_number,
     stage_number, subkey_number, withdraw_number,
 };
-use crate::{Contractor, Opened, PageHeader, Reason, Right, Walked, Way, PAYLOAD_BYTES};
+use crate::{Opened, PageHeader, PageKeys, Reason, Right, Walked, Way, CONTRACTORS, PAYLOAD_BYTES};
 
 /// An answer from this number on says that a grant opens; it is this number times the
 /// right asked for, plus the contractor.
@@ -142,10 +141,10 @@ pub fn issue(
 /// zero, and the others as they were; where it refuses, all are as they were:
 ///
 /// ```
-/// use gordzila::{raw, Reason};
+/// use gordzila::{raw, PageKeys, Reason};
 ///
 /// let (keys, mut scratch, mut out) = (
-///     raw::KeyPair { first: &[1; 12], second: &[2; 12] },
+///     PageKeys { first: &[1; 12], second: &[2; 12] },
 ///     [0xee; 577],
 ///     [0xee; 513],
 /// );
@@ -156,7 +155,7 @@ pub fn issue(
 /// # Ok::<(), Reason>(())
 /// ```
 pub fn seal_page(
-    keys: KeyPair<'_>,
+    keys: PageKeys<'_>,
     rounds: u32,
     size_block: u32,
     page_number: u16,
@@ -188,11 +187,11 @@ pub fn seal_page(
 /// A page that was sealed for size block 0, before version 0.7, is not refused for that.
 ///
 /// ```
-/// use gordzila::{raw, PageHeader, Reason};
+/// use gordzila::{raw, PageHeader, PageKeys, Reason, SizeBlock};
 ///
-/// let keys = raw::KeyPair { first: &[1; 12], second: &[2; 12] };
-/// let (mut page, mut scratch, mut out) = ([0; 512], [0xee; 576], [0xee; 492]);
-/// raw::seal_page(keys, 10, 300, 4, b"front panel", &mut scratch, &mut page)?;
+/// let (keys, block) = (PageKeys { first: &[1; 12], second: &[2; 12] }, SizeBlock::try_from(300)?);
+/// let mut page = gordzila::seal_page(keys, 10, block, 4, b"front panel")?;
+/// let (mut scratch, mut out) = ([0xee; 576], [0xee; 492]);
 /// let header = raw::open_page(keys, 10, &page, &mut scratch, &mut out)?;
 /// assert_eq!(header, PageHeader { size_block: 300, page_number: 4, used: 11 });
 /// assert_eq!((&out[..11], &out[11..]), (&b"front panel"[..], &[0; 481][..]));
@@ -205,7 +204,7 @@ pub fn seal_page(
 /// # Ok::<(), Reason>(())
 /// ```
 pub fn open_page(
-    keys: KeyPair<'_>,
+    keys: PageKeys<'_>,
     rounds: u32,
     page: &[u8],
     scratch: &mut [u8],
@@ -294,9 +293,9 @@ fn opened(answer: u32) -> Result<Opened, Reason> {
     if answer < OPENS {
         return Err(reason(answer));
     }
-    let (right, contractor) = (answer / OPENS, answer % OPENS);
-    match (Right::from_number(right), Contractor::new(contractor)) {
-        (Some(right), Some(contractor)) => Ok(Opened { contractor, right }),
+    let contractor = answer % OPENS;
+    match Right::from_number(answer / OPENS) {
+        Some(right) if (1..=CONTRACTORS).contains(&contractor) => Ok(Opened { contractor, right }),
         _ => unknown(answer),
     }
 }
@@ -354,12 +353,12 @@ fn unknown(number: impl Into<u64>) -> ! {
 #[cfg(test)]
 mod tests {
     use super::{done, opened, page_opened, walked};
-    use crate::{Contractor, Opened, PageHeader, Reason, Right, Walked, Way};
+    use crate::{Opened, PageHeader, Reason, Right, Walked, Way};
 
     #[test]
     fn zero_is_done_and_other_numbers_are_reasons() {
         assert_eq!(done(0), Ok(()));
-        for &reason in Reason::ALL {
+        for reason in Reason::ALL {
             assert_eq!(done(reason.number()), Err(reason));
         }
     }
@@ -373,9 +372,9 @@ mod tests {
 
     #[test]
     fn answers_from_1001_and_2001_on_open() {
-        for contractor in Contractor::all() {
+        for contractor in [1, 7, 200] {
             for right in [Right::Reading, Right::Overwriting] {
-                let answer = 1000 * right.number() + contractor.number();
+                let answer = 1000 * right.number() + contractor;
                 assert_eq!(opened(answer), Ok(Opened { contractor, right }));
             }
         }
@@ -383,7 +382,7 @@ mod tests {
 
     #[test]
     fn answers_below_1000_refuse() {
-        for &reason in Reason::ALL {
+        for reason in Reason::ALL {
             assert_eq!(opened(reason.number()), Err(reason));
         }
     }
@@ -409,7 +408,7 @@ mod tests {
 
     #[test]
     fn a_walk_refuses_below_1000() {
-        for &reason in Reason::ALL {
+        for reason in Reason::ALL {
             assert_eq!(walked(reason.number()), Err(reason));
         }
     }
@@ -440,7 +439,7 @@ mod tests {
 
     #[test]
     fn a_page_is_refused_below_2_to_63() {
-        for &reason in Reason::ALL {
+        for reason in Reason::ALL {
             assert_eq!(page_opened(reason.number().into()), Err(reason));
         }
     }

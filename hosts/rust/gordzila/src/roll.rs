@@ -1,8 +1,7 @@
 //! The roll of contractors, held as the bytes that the C calls take.
 
 use crate::calls::written;
-use crate::{raw, Contractor, Reason, Right};
-use core::fmt;
+use crate::{raw, Reason, Right};
 
 /// How many bytes a roll has: the counts, and after them the highest rights.
 pub const ROLL_BYTES: usize = 600;
@@ -13,6 +12,9 @@ pub const OLD_ROLL_BYTES: usize = 400;
 /// Where the rights start: after the counts, which are what a roll had before.
 const RIGHTS: usize = OLD_ROLL_BYTES;
 
+/// How many contractors there are; they have the numbers from 1 on.
+pub const CONTRACTORS: u32 = 200;
+
 /// The roll: for each contractor a count, which tells whether they are in standing, and a
 /// highest right.
 ///
@@ -21,55 +23,26 @@ const RIGHTS: usize = OLD_ROLL_BYTES;
 /// before that.
 ///
 /// ```
-/// use gordzila::{Contractor, Reason, Right, Roll};
+/// use gordzila::{Reason, Right, Roll};
 ///
-/// let (mut roll, seven) = (Roll::empty(), Contractor::try_from(7)?);
-/// roll.enter(seven, Right::Overwriting)?;
-/// assert_eq!(roll.count(seven), 1);
-/// assert_eq!(roll.highest_right(seven), Right::Overwriting);
-/// assert!(roll.in_standing(seven));
-/// assert_eq!(roll.enter(seven, Right::Reading), Err(Reason::InStanding));
+/// let mut roll = Roll::empty();
+/// roll.enter(7, Right::Overwriting)?;
+/// assert_eq!(roll.count(7), Some(1));
+/// assert_eq!(roll.highest_right(7), Some(Right::Overwriting));
+/// assert!(roll.in_standing(7));
+/// assert_eq!(roll.enter(7, Right::Reading), Err(Reason::InStanding));
 ///
-/// roll.change_right(seven, Right::Reading)?;
-/// assert_eq!(roll.count(seven), 1);
-/// assert_eq!(roll.highest_right(seven), Right::Reading);
+/// roll.change_right(7, Right::Reading)?;
+/// assert_eq!(roll.count(7), Some(1));
+/// assert_eq!(roll.highest_right(7), Some(Right::Reading));
 ///
-/// roll.withdraw(seven)?;
-/// assert_eq!(roll.count(seven), 2);
-/// assert!(!roll.in_standing(seven));
+/// roll.withdraw(7)?;
+/// assert_eq!(roll.count(7), Some(2));
+/// assert!(!roll.in_standing(7));
 /// # Ok::<(), Reason>(())
 /// ```
-#[derive(Clone, PartialEq, Eq)]
+#[derive(Clone, Debug, PartialEq, Eq)]
 pub struct Roll([u8; ROLL_BYTES]);
-
-/// The roll that has these bytes; [`Reason::InputLength`] where they are not as many as
-/// [`ROLL_BYTES`], as the calls of [`raw`](crate::raw) have it.
-///
-/// ```
-/// use gordzila::{Reason, Roll};
-///
-/// let roll = Roll::empty();
-/// assert_eq!(Roll::try_from(&roll.bytes()[..]), Ok(roll));
-/// assert_eq!(Roll::try_from(&[0; 400][..]), Err(Reason::InputLength));
-/// ```
-impl TryFrom<&[u8]> for Roll {
-    type Error = Reason;
-
-    fn try_from(bytes: &[u8]) -> Result<Roll, Reason> {
-        Roll::from_bytes(bytes).ok_or(Reason::InputLength)
-    }
-}
-
-/// How many are in standing: 600 numbers would tell less.
-impl fmt::Debug for Roll {
-    fn fmt(&self, formatter: &mut fmt::Formatter<'_>) -> fmt::Result {
-        let in_standing = Contractor::all().filter(|&one| self.in_standing(one));
-        formatter
-            .debug_struct("Roll")
-            .field("in_standing", &in_standing.count())
-            .finish_non_exhaustive()
-    }
-}
 
 impl Roll {
     /// The roll on which nobody was ever entered, and nobody may do more than read.
@@ -108,16 +81,14 @@ impl Roll {
     /// [`Roll::change_right`] raises their contractors.
     ///
     /// ```
-    /// use gordzila::{Contractor, Right, Roll, OLD_ROLL_BYTES};
+    /// use gordzila::{Right, Roll, OLD_ROLL_BYTES};
     ///
-    /// let (seven, eight) = (Contractor::try_from(7)?, Contractor::try_from(8)?);
     /// let mut old = [0; OLD_ROLL_BYTES];
     /// old[13] = 1; // contractor 7 is in standing
     /// let roll = Roll::from_old_bytes(&old, Right::Overwriting).unwrap();
-    /// assert_eq!(roll.count(seven), 1);
-    /// assert_eq!(roll.highest_right(seven), Right::Overwriting);
-    /// assert_eq!(roll.highest_right(eight), Right::Reading);
-    /// # Ok::<(), gordzila::Reason>(())
+    /// assert_eq!(roll.count(7), Some(1));
+    /// assert_eq!(roll.highest_right(7), Some(Right::Overwriting));
+    /// assert_eq!(roll.highest_right(8), Some(Right::Reading));
     /// ```
     ///
     /// # Panics
@@ -127,7 +98,7 @@ impl Roll {
         let counts = <[u8; OLD_ROLL_BYTES]>::try_from(bytes).ok()?;
         let mut roll = Roll::empty();
         roll.0[..RIGHTS].copy_from_slice(&counts);
-        for contractor in Contractor::all() {
+        for contractor in 1..=CONTRACTORS {
             // The library refuses this for all who are not in standing, and for nobody else.
             let _ = roll.change_right(contractor, in_standing);
         }
@@ -139,39 +110,41 @@ impl Roll {
         &self.0
     }
 
-    /// The count of a contractor.
-    pub fn count(&self, contractor: Contractor) -> u16 {
-        let at = 2 * contractor.index();
-        u16::from_be_bytes([self.0[at], self.0[at + 1]])
+    /// The count of a contractor; none outside 1 to 200.
+    pub fn count(&self, contractor: u32) -> Option<u16> {
+        let at = 2 * index(contractor)?;
+        Some(u16::from_be_bytes([self.0[at], self.0[at + 1]]))
     }
 
-    /// The highest right of a contractor, whether they are in standing or not. It is
-    /// [`Right::Overwriting`] where the byte is 2, and [`Right::Reading`] where it is any
-    /// other.
-    pub fn highest_right(&self, contractor: Contractor) -> Right {
-        match self.0[RIGHTS + contractor.index()] {
+    /// The highest right of a contractor, whether they are in standing or not; none outside
+    /// 1 to 200. It is [`Right::Overwriting`] where the byte is 2, and [`Right::Reading`]
+    /// where it is any other.
+    pub fn highest_right(&self, contractor: u32) -> Option<Right> {
+        let byte = self.0[RIGHTS + index(contractor)?];
+        Some(match byte {
             2 => Right::Overwriting,
             _ => Right::Reading,
-        }
+        })
     }
 
-    /// Whether a contractor is in standing.
+    /// Whether a contractor is in standing. Nobody is outside 1 to 200.
     ///
     /// The library is asked, by a withdrawal on a copy, so that its rule does not
     /// stand here a second time.
-    pub fn in_standing(&self, contractor: Contractor) -> bool {
+    pub fn in_standing(&self, contractor: u32) -> bool {
         self.clone().withdraw(contractor).is_ok()
     }
 
     /// Enters a contractor who is not in standing, with their highest right. Refuses with
-    /// [`Reason::InStanding`] or [`Reason::CountSpent`]. The right of someone in standing stays
-    /// as it is: [`Roll::change_right`] changes it.
-    pub fn enter(&mut self, contractor: Contractor, highest: Right) -> Result<(), Reason> {
-        raw::enter(&mut self.0, contractor.number(), highest.number())
+    /// [`Reason::Contractor`], [`Reason::InStanding`] or [`Reason::CountSpent`]. The right of
+    /// someone in standing stays as it is: [`Roll::change_right`] changes it.
+    pub fn enter(&mut self, contractor: u32, highest: Right) -> Result<(), Reason> {
+        raw::enter(&mut self.0, contractor, highest.number())
     }
 
     /// Changes the highest right of a contractor who is in standing; the one that they have
-    /// already is taken too. Refuses with [`Reason::NotInStanding`].
+    /// already is taken too. Refuses with [`Reason::Contractor`] or
+    /// [`Reason::NotInStanding`].
     ///
     /// With [`Right::Reading`] the contractor is demoted. Their grants go on opening for
     /// reading, and on this roll none opens for overwriting. That is
@@ -182,39 +155,47 @@ impl Roll {
     /// again. To end these, withdraw the contractor and enter them again.
     ///
     /// ```
-    /// use gordzila::{check, issue, Contractor, Key, Reason, Right, Roll, SizeBlock};
+    /// use gordzila::{check, issue, Reason, Right, Roll, SizeBlock};
     ///
-    /// let (key, block) = (Key::new(&[9; 12], 10)?, SizeBlock::try_from(300)?);
-    /// let (mut roll, seven) = (Roll::empty(), Contractor::try_from(7)?);
-    /// roll.enter(seven, Right::Overwriting)?;
-    /// let grant = issue(key, &roll, seven, block, Right::Overwriting)?;
+    /// let (key, rounds, block) = (&[9; 12], 10, SizeBlock::try_from(300)?);
+    /// let mut roll = Roll::empty();
+    /// roll.enter(7, Right::Overwriting)?;
+    /// let grant = issue(key, rounds, &roll, 7, block, Right::Overwriting)?;
     ///
-    /// roll.change_right(seven, Right::Reading)?;
-    /// let overwriting = check(key, &roll, &grant, block, Right::Overwriting);
+    /// roll.change_right(7, Right::Reading)?;
+    /// let overwriting = check(key, rounds, &roll, &grant, block, Right::Overwriting);
     /// assert_eq!(overwriting, Err(Reason::AboveHighest));
-    /// assert!(check(key, &roll, &grant, block, Right::Reading).is_ok());
+    /// assert!(check(key, rounds, &roll, &grant, block, Right::Reading).is_ok());
     ///
     /// // The same grant overwrites again once its contractor is raised.
-    /// roll.change_right(seven, Right::Overwriting)?;
-    /// assert!(check(key, &roll, &grant, block, Right::Overwriting).is_ok());
+    /// roll.change_right(7, Right::Overwriting)?;
+    /// assert!(check(key, rounds, &roll, &grant, block, Right::Overwriting).is_ok());
     /// # Ok::<(), Reason>(())
     /// ```
-    pub fn change_right(&mut self, contractor: Contractor, highest: Right) -> Result<(), Reason> {
-        raw::change_right(&mut self.0, contractor.number(), highest.number())
+    pub fn change_right(&mut self, contractor: u32, highest: Right) -> Result<(), Reason> {
+        raw::change_right(&mut self.0, contractor, highest.number())
     }
 
     /// Withdraws a contractor who is in standing: no grant issued to them before opens
     /// on this roll any more, and their highest right becomes reading. Refuses with
-    /// [`Reason::NotInStanding`].
-    pub fn withdraw(&mut self, contractor: Contractor) -> Result<(), Reason> {
-        raw::withdraw(&mut self.0, contractor.number())
+    /// [`Reason::Contractor`] or [`Reason::NotInStanding`].
+    pub fn withdraw(&mut self, contractor: u32) -> Result<(), Reason> {
+        raw::withdraw(&mut self.0, contractor)
+    }
+}
+
+/// The place of a contractor among the entries; none outside 1 to 200.
+fn index(contractor: u32) -> Option<usize> {
+    match contractor {
+        1..=CONTRACTORS => Some(contractor as usize - 1),
+        _ => None,
     }
 }
 
 #[cfg(test)]
 mod tests {
-    use super::Roll;
-    use crate::{raw, Contractor, Reason, Right};
+    use super::{Roll, CONTRACTORS};
+    use crate::{Reason, Right};
     use Right::{Overwriting, Reading};
 
     /// The bytes of the empty roll, with one entry: a count and a highest right.
@@ -228,17 +209,8 @@ mod tests {
     }
 
     /// The roll with these bytes.
-    fn with_entry(contractor: Contractor, count: u16, highest: u8) -> Roll {
-        let number = contractor.number() as usize;
-        Roll::from_bytes(&bytes_with(number, count, highest)).unwrap()
-    }
-
-    /// The contractor with a number.
-    const fn nth(number: u32) -> Contractor {
-        match Contractor::new(number) {
-            Some(contractor) => contractor,
-            None => panic!("no contractor has this number"),
-        }
+    fn with_entry(contractor: u32, count: u16, highest: u8) -> Roll {
+        Roll::from_bytes(&bytes_with(contractor as usize, count, highest)).unwrap()
     }
 
     #[test]
@@ -256,33 +228,33 @@ mod tests {
         let roll = Roll::empty();
         assert_eq!(roll.bytes()[..400], [0; 400]);
         assert_eq!(roll.bytes()[400..], [1; 200]);
-        for contractor in Contractor::all() {
-            assert_eq!(roll.count(contractor), 0);
-            assert_eq!(roll.highest_right(contractor), Reading);
+        for contractor in 1..=CONTRACTORS {
+            assert_eq!(roll.count(contractor), Some(0));
+            assert_eq!(roll.highest_right(contractor), Some(Reading));
             assert!(!roll.in_standing(contractor));
         }
     }
 
     #[test]
     fn counts_stand_big_end_first() {
-        let roll = with_entry(nth(2), 0x1234, 1);
+        let roll = with_entry(2, 0x1234, 1);
         assert_eq!(roll.bytes()[2..4], [0x12, 0x34]);
-        assert_eq!(roll.count(nth(2)), 0x1234);
-        assert_eq!(roll.count(nth(1)), 0);
-        assert_eq!(roll.count(nth(3)), 0);
-        assert_eq!(with_entry(nth(200), 5, 1).bytes()[399], 5);
-        assert_eq!(with_entry(nth(200), 5, 1).count(nth(200)), 5);
+        assert_eq!(roll.count(2), Some(0x1234));
+        assert_eq!(roll.count(1), Some(0));
+        assert_eq!(roll.count(3), Some(0));
+        assert_eq!(with_entry(200, 5, 1).bytes()[399], 5);
+        assert_eq!(with_entry(200, 5, 1).count(200), Some(5));
     }
 
     /// From the byte after the counts on, contractor 1's first.
     #[test]
     fn rights_stand_after_the_counts() {
-        for contractor in Contractor::all() {
+        for contractor in 1..=CONTRACTORS {
             let mut bytes = [1; 600];
-            bytes[399 + contractor.number() as usize] = 2;
+            bytes[399 + contractor as usize] = 2;
             let roll = Roll::from_bytes(&bytes).unwrap();
-            let overwrites = |&one: &Contractor| roll.highest_right(one) == Overwriting;
-            assert!(Contractor::all().filter(overwrites).eq([contractor]));
+            let overwrites = |&one: &u32| roll.highest_right(one) == Some(Overwriting);
+            assert!((1..=CONTRACTORS).filter(overwrites).eq([contractor]));
         }
     }
 
@@ -291,41 +263,40 @@ mod tests {
         for byte in 0..=u8::MAX {
             let expected = if byte == 2 { Overwriting } else { Reading };
             for count in [0, 1] {
-                let roll = with_entry(nth(9), count, byte);
-                assert_eq!(roll.highest_right(nth(9)), expected, "{byte}");
+                let roll = with_entry(9, count, byte);
+                assert_eq!(roll.highest_right(9), Some(expected), "{byte}");
             }
         }
     }
 
     #[test]
     fn nobody_outside_1_to_200_has_an_entry() {
-        let (mut bytes, refused) = (*Roll::empty().bytes(), Err(Reason::Contractor));
-        for number in [0, 201, 257, 65_537, u32::MAX] {
-            assert_eq!(Contractor::try_from(number).map(|_| ()), refused);
-            for right in [1, 2] {
-                assert_eq!(raw::enter(&mut bytes, number, right), refused);
-                assert_eq!(raw::change_right(&mut bytes, number, right), refused);
+        let mut roll = Roll::empty();
+        for contractor in [0, 201, 257, 65_537, u32::MAX] {
+            assert_eq!(roll.count(contractor), None);
+            assert_eq!(roll.highest_right(contractor), None);
+            assert!(!roll.in_standing(contractor));
+            for right in [Reading, Overwriting] {
+                assert_eq!(roll.enter(contractor, right), Err(Reason::Contractor));
+                let changed = roll.change_right(contractor, right);
+                assert_eq!(changed, Err(Reason::Contractor));
             }
-            assert_eq!(raw::withdraw(&mut bytes, number), refused);
+            assert_eq!(roll.withdraw(contractor), Err(Reason::Contractor));
         }
-        assert_eq!(bytes, *Roll::empty().bytes());
+        assert_eq!(roll, Roll::empty());
     }
 
     #[test]
     fn in_standing_is_odd_and_below_65535() {
         for count in 0..=u16::MAX {
             let expected = count % 2 == 1 && count < 65_535;
-            assert_eq!(
-                with_entry(nth(9), count, 1).in_standing(nth(9)),
-                expected,
-                "{count}"
-            );
+            assert_eq!(with_entry(9, count, 1).in_standing(9), expected, "{count}");
         }
     }
 
     #[test]
     fn each_change_writes_one_entry() {
-        for contractor in Contractor::all() {
+        for contractor in 1..=CONTRACTORS {
             let mut roll = Roll::empty();
             let entry = |count, highest| with_entry(contractor, count, highest);
             assert_eq!(roll.withdraw(contractor), Err(Reason::NotInStanding));
@@ -352,38 +323,38 @@ mod tests {
     #[test]
     fn other_bytes_stay_until_their_entry_is_written() {
         for byte in [0, 1, 2, 3, 255] {
-            let mut roll = with_entry(nth(8), 1, byte);
+            let mut roll = with_entry(8, 1, byte);
             let stored = roll.bytes()[407];
-            assert_eq!(roll.enter(nth(7), Overwriting), Ok(()));
-            assert_eq!(roll.change_right(nth(7), Reading), Ok(()));
-            assert_eq!(roll.withdraw(nth(7)), Ok(()));
-            assert_eq!(roll.enter(nth(8), Overwriting), Err(Reason::InStanding));
+            assert_eq!(roll.enter(7, Overwriting), Ok(()));
+            assert_eq!(roll.change_right(7, Reading), Ok(()));
+            assert_eq!(roll.withdraw(7), Ok(()));
+            assert_eq!(roll.enter(8, Overwriting), Err(Reason::InStanding));
             assert_eq!((stored, roll.bytes()[407]), (byte, byte));
             for (right, written) in [(Reading, 1), (Overwriting, 2)] {
                 let mut changed = roll.clone();
-                assert_eq!(changed.change_right(nth(8), right), Ok(()));
+                assert_eq!(changed.change_right(8, right), Ok(()));
                 assert_eq!(changed.bytes()[407], written);
             }
-            assert_eq!(roll.withdraw(nth(8)), Ok(()));
+            assert_eq!(roll.withdraw(8), Ok(()));
             assert_eq!(roll.bytes()[407], 1);
         }
     }
 
     #[test]
     fn the_last_counts_are_spent() {
-        let mut roll = with_entry(nth(3), 65_532, 1);
-        assert_eq!(roll.enter(nth(3), Overwriting), Ok(()));
-        assert_eq!(roll.withdraw(nth(3)), Ok(()));
-        assert_eq!(roll.count(nth(3)), 65_534);
-        let mut spent = with_entry(nth(3), 65_535, 2);
+        let mut roll = with_entry(3, 65_532, 1);
+        assert_eq!(roll.enter(3, Overwriting), Ok(()));
+        assert_eq!(roll.withdraw(3), Ok(()));
+        assert_eq!(roll.count(3), Some(65_534));
+        let mut spent = with_entry(3, 65_535, 2);
         for right in [Reading, Overwriting] {
-            assert_eq!(roll.enter(nth(3), right), Err(Reason::CountSpent));
-            assert_eq!(spent.enter(nth(3), right), Err(Reason::CountSpent));
-            let changed = spent.change_right(nth(3), right);
+            assert_eq!(roll.enter(3, right), Err(Reason::CountSpent));
+            assert_eq!(spent.enter(3, right), Err(Reason::CountSpent));
+            let changed = spent.change_right(3, right);
             assert_eq!(changed, Err(Reason::NotInStanding));
         }
-        assert_eq!(spent.withdraw(nth(3)), Err(Reason::NotInStanding));
-        assert_eq!(spent, with_entry(nth(3), 65_535, 2));
+        assert_eq!(spent.withdraw(3), Err(Reason::NotInStanding));
+        assert_eq!(spent, with_entry(3, 65_535, 2));
     }
 
     #[test]

@@ -1,6 +1,5 @@
-//! The C calls, declared as in include/gordzila.h, and a safe function over each; how
-//! grants become the bytes of a queue without a copy; and how the stack is wiped. All
-//! unsafe code of the package stands here.
+//! The C calls, declared as in include/gordzila.h, and a safe function over each.
+//! All unsafe code of the package stands here.
 //!
 //! Why the calls are sound for any slices and numbers, by the rules of the header:
 //!
@@ -13,10 +12,7 @@
 //! - The slices are borrowed for the whole call, and the library keeps no pointer.
 //! - The calls have no state, so that any thread may make them at any time.
 
-use crate::raw::KeyPair;
-use crate::{Grant, BLOCK_BYTES};
-use core::mem::{self, MaybeUninit};
-use core::{ptr, slice};
+use crate::PageKeys;
 
 extern "C" {
     fn gordzila_check(
@@ -159,19 +155,8 @@ extern "C" {
     ) -> u32;
 }
 
-/// The bytes of grants, one after the other, where they stand.
-pub(crate) fn grant_bytes(grants: &[Grant]) -> &[u8] {
-    // SAFETY: a grant is transparent over its 12 bytes, so that as many bytes as the slice has
-    // in all stand at its pointer, for as long as it is borrowed. Bytes need no alignment.
-    unsafe { slice::from_raw_parts(grants.as_ptr().cast(), mem::size_of_val(grants)) }
-}
-
-// A grant that came to have anything beside its bytes would not compile.
-const _: () = assert!(mem::size_of::<Grant>() == BLOCK_BYTES);
-
 /// The number that `gordzila_check` answers: that of a reason, or, where the grant
 /// opens, 1,000 times the right asked for plus the contractor.
-#[must_use]
 pub fn check_number(
     key: &[u8],
     rounds: u32,
@@ -198,7 +183,6 @@ pub fn check_number(
 
 /// The number that `gordzila_check_queue` returns: that of a reason to refuse the whole
 /// call, or 0. 0 does not say that a grant opens: `answers` has a byte for each.
-#[must_use]
 pub fn check_queue_number(
     key: &[u8],
     rounds: u32,
@@ -228,35 +212,30 @@ pub fn check_queue_number(
 }
 
 /// The number that `gordzila_empty_roll` answers: 0, or that of a reason.
-#[must_use]
 pub fn empty_roll_number(out: &mut [u8]) -> u32 {
     // SAFETY: the pointer with the length of its slice, which is lent for writing.
     unsafe { gordzila_empty_roll(out.as_mut_ptr(), out.len()) }
 }
 
 /// The number that `gordzila_enter` answers: 0, or that of a reason.
-#[must_use]
 pub fn enter_number(roll: &mut [u8], contractor: u32, right: u32) -> u32 {
     // SAFETY: the pointer with the length of its slice, which is lent for writing.
     unsafe { gordzila_enter(roll.as_mut_ptr(), roll.len(), contractor, right) }
 }
 
 /// The number that `gordzila_change_right` answers: 0, or that of a reason.
-#[must_use]
 pub fn change_right_number(roll: &mut [u8], contractor: u32, right: u32) -> u32 {
     // SAFETY: the pointer with the length of its slice, which is lent for writing.
     unsafe { gordzila_change_right(roll.as_mut_ptr(), roll.len(), contractor, right) }
 }
 
 /// The number that `gordzila_withdraw` answers: 0, or that of a reason.
-#[must_use]
 pub fn withdraw_number(roll: &mut [u8], contractor: u32) -> u32 {
     // SAFETY: the pointer with the length of its slice, which is lent for writing.
     unsafe { gordzila_withdraw(roll.as_mut_ptr(), roll.len(), contractor) }
 }
 
 /// The number that `gordzila_issue` answers: 0, or that of a reason.
-#[must_use]
 pub fn issue_number(
     key: &[u8],
     rounds: u32,
@@ -285,9 +264,8 @@ pub fn issue_number(
 }
 
 /// The number that `gordzila_seal_page` answers: 0, or that of a reason.
-#[must_use]
 pub fn seal_page_number(
-    keys: KeyPair<'_>,
+    keys: PageKeys<'_>,
     rounds: u32,
     size_block: u32,
     page_number: u16,
@@ -318,9 +296,8 @@ pub fn seal_page_number(
 
 /// The number that `gordzila_open_page` answers: that of a reason, or, where the page
 /// opens, 2^63 + 2^48 times the used count + 2^32 times the page number + the size block.
-#[must_use]
 pub fn open_page_number(
-    keys: KeyPair<'_>,
+    keys: PageKeys<'_>,
     rounds: u32,
     page: &[u8],
     scratch: &mut [u8],
@@ -346,7 +323,6 @@ pub fn open_page_number(
 }
 
 /// The number that `gordzila_encipher` answers: 0, or that of a reason.
-#[must_use]
 pub fn encipher_number(key: &[u8], rounds: u32, block: &[u8], out: &mut [u8]) -> u32 {
     // SAFETY: pointers with the lengths of their slices; `out`, which is lent for
     // writing, overlaps no other slice.
@@ -364,7 +340,6 @@ pub fn encipher_number(key: &[u8], rounds: u32, block: &[u8], out: &mut [u8]) ->
 }
 
 /// The number that `gordzila_decipher` answers: 0, or that of a reason.
-#[must_use]
 pub fn decipher_number(key: &[u8], rounds: u32, block: &[u8], out: &mut [u8]) -> u32 {
     // SAFETY: pointers with the lengths of their slices; `out`, which is lent for
     // writing, overlaps no other slice.
@@ -382,7 +357,6 @@ pub fn decipher_number(key: &[u8], rounds: u32, block: &[u8], out: &mut [u8]) ->
 }
 
 /// The number that `gordzila_prepare_enciphering` answers: 0, or that of a reason.
-#[must_use]
 pub fn prepare_enciphering_number(key: &[u8], rounds: u32, out: &mut [u8]) -> u32 {
     // SAFETY: pointers with the lengths of their slices; `out`, which is lent for
     // writing, overlaps no other slice.
@@ -392,7 +366,6 @@ pub fn prepare_enciphering_number(key: &[u8], rounds: u32, out: &mut [u8]) -> u3
 }
 
 /// The number that `gordzila_prepare_deciphering` answers: 0, or that of a reason.
-#[must_use]
 pub fn prepare_deciphering_number(key: &[u8], rounds: u32, out: &mut [u8]) -> u32 {
     // SAFETY: pointers with the lengths of their slices; `out`, which is lent for
     // writing, overlaps no other slice.
@@ -402,7 +375,6 @@ pub fn prepare_deciphering_number(key: &[u8], rounds: u32, out: &mut [u8]) -> u3
 }
 
 /// The number that `gordzila_run` answers: 0, or that of a reason.
-#[must_use]
 pub fn run_number(list: &[u8], block: &[u8], out: &mut [u8]) -> u32 {
     // SAFETY: pointers with the lengths of their slices; `out`, which is lent for
     // writing, overlaps no other slice.
@@ -419,7 +391,6 @@ pub fn run_number(list: &[u8], block: &[u8], out: &mut [u8]) -> u32 {
 }
 
 /// The number that `gordzila_stage` answers: 0, or that of a reason.
-#[must_use]
 pub fn stage_number(key: &[u8], n: u32, out: &mut [u8]) -> u32 {
     // SAFETY: pointers with the lengths of their slices; `out`, which is lent for
     // writing, overlaps no other slice.
@@ -427,7 +398,6 @@ pub fn stage_number(key: &[u8], n: u32, out: &mut [u8]) -> u32 {
 }
 
 /// The number that `gordzila_subkey` answers: 0, or that of a reason.
-#[must_use]
 pub fn subkey_number(key: &[u8], n: u32, out: &mut [u8]) -> u32 {
     // SAFETY: pointers with the lengths of their slices; `out`, which is lent for
     // writing, overlaps no other slice.
@@ -435,7 +405,6 @@ pub fn subkey_number(key: &[u8], n: u32, out: &mut [u8]) -> u32 {
 }
 
 /// The number that `gordzila_holder_make` answers: 0, or that of a reason.
-#[must_use]
 pub fn holder_make_number(key: &[u8], out: &mut [u8]) -> u32 {
     // SAFETY: pointers with the lengths of their slices; `out`, which is lent for
     // writing, overlaps no other slice.
@@ -443,14 +412,12 @@ pub fn holder_make_number(key: &[u8], out: &mut [u8]) -> u32 {
 }
 
 /// The number that `gordzila_holder_forward` answers: 0, or that of a reason.
-#[must_use]
 pub fn holder_forward_number(holder: &mut [u8]) -> u32 {
     // SAFETY: the pointer with the length of its slice, which is lent for writing.
     unsafe { gordzila_holder_forward(holder.as_mut_ptr(), holder.len()) }
 }
 
 /// The number that `gordzila_holder_back` answers: 0, or that of a reason.
-#[must_use]
 pub fn holder_back_number(holder: &mut [u8]) -> u32 {
     // SAFETY: the pointer with the length of its slice, which is lent for writing.
     unsafe { gordzila_holder_back(holder.as_mut_ptr(), holder.len()) }
@@ -458,60 +425,14 @@ pub fn holder_back_number(holder: &mut [u8]) -> u32 {
 
 /// The number that `gordzila_holder_walk` answers: that of a reason, or, where the
 /// holder walked, its steps plus 1,000 forward or 2,000 back.
-#[must_use]
 pub fn holder_walk_number(holder: &mut [u8], n: u32) -> u32 {
     // SAFETY: the pointer with the length of its slice, which is lent for writing.
     unsafe { gordzila_holder_walk(holder.as_mut_ptr(), holder.len(), n) }
 }
 
 /// The number that `gordzila_holder_subkey` answers: 0, or that of a reason.
-#[must_use]
 pub fn holder_subkey_number(holder: &[u8], out: &mut [u8]) -> u32 {
     // SAFETY: pointers with the lengths of their slices; `out`, which is lent for
     // writing, overlaps no other slice.
     unsafe { gordzila_holder_subkey(holder.as_ptr(), holder.len(), out.as_mut_ptr(), out.len()) }
-}
-
-/// How many bytes [`wipe_stack`] writes. The calls of the library take less than 1,024, and
-/// the rest is for the functions of this package that lead to them.
-const WIPED_BYTES: usize = 4096;
-
-/// Wipes the stack below the caller.
-///
-/// The calls do not clean their stack: after one with a key, subkeys and stages of the key
-/// stand there until something else is written over them, and so does what a grant
-/// deciphered to. Whoever can read that memory later, from a core dump or through another
-/// fault of the program, has what opens every grant. Who minds calls this right after the
-/// call, from the same function. Registers are not wiped, nor is what the program itself
-/// keeps: the key, and what a call gave. The program has to look functions up when it
-/// starts, as Rust's programs do, and not in the first call.
-///
-/// ```
-/// # use gordzila::{check, wipe_stack, Grant, Key, Right, Roll, SizeBlock};
-/// # let (key, roll, grant) = (Key::new(&[42; 24], 18)?, Roll::empty(), Grant::from([0; 12]));
-/// # let block = SizeBlock::try_from(300)?;
-/// let answer = check(key, &roll, &grant, block, Right::Reading);
-/// wipe_stack();
-/// # assert!(answer.is_err());
-/// # Ok::<(), gordzila::Reason>(())
-/// ```
-#[inline(always)]
-pub fn wipe_stack() {
-    let mut done = MaybeUninit::<u8>::uninit();
-    // SAFETY: it is written, and not read. Written after the call, it keeps a compiler from
-    // making a jump of it, with the caller's own stack given back before.
-    unsafe { ptr::write_volatile(done.as_mut_ptr(), written_zeros()) };
-}
-
-/// Writes zeros to as many bytes below the caller.
-#[inline(never)]
-fn written_zeros() -> u8 {
-    let mut room = MaybeUninit::<[u8; WIPED_BYTES]>::uninit();
-    let first = room.as_mut_ptr().cast::<u8>();
-    for place in 0..WIPED_BYTES {
-        // SAFETY: the place is one of the room's. That the write is volatile keeps it in,
-        // though nobody reads it.
-        unsafe { ptr::write_volatile(first.add(place), 0) };
-    }
-    0
 }

@@ -1,6 +1,6 @@
 //! Ways, and what a walk answers where it is made.
 
-use core::fmt;
+use std::fmt;
 
 /// The way that a key holder goes from stage to stage.
 #[derive(Clone, Copy, Debug, PartialEq, Eq)]

@@ -2,7 +2,7 @@
 //! output of the independent program. reference/README.md says what the lines of `zero` are.
 //! The old grants and the old pages are those that it prints: no call makes them any more.
 
-use crate::running::{on_roll, refusal, run, Room, Run, KEY, OTHER_KEY};
+use crate::running::{on_roll, run, Room, Run, KEY, OTHER_KEY};
 use std::fs;
 use std::path::{Path, PathBuf};
 
@@ -47,8 +47,8 @@ fn a_blank_form_is_refused_in_these_words() {
             "seal {keys} --page-number 4 --payload {payload} --page {page}"
         )),
     ] {
-        assert_eq!((run.status, &run.out[..]), (Some(3), ""), "{run:?}");
-        assert_eq!(run.refused(), 14);
+        assert_eq!((run.status, &run.out[..]), (Some(1), ""), "{run:?}");
+        assert_eq!(run.err, "refused with 14: size block number 0 asked for\n");
     }
     assert_eq!(fs::read(&roll).unwrap(), before);
     assert_eq!(room.names(), ["grants", "panel", "roll"]);
@@ -213,7 +213,7 @@ impl<'a> Life<'a> {
         let run = on_roll("queue", &self.roll, &options);
         let told = match run.status {
             Some(0) => {
-                let verdicts = format!("1: {}\n2: opens\n", refusal(9));
+                let verdicts = "1: refused with 9: grant for another size block\n2: opens\n";
                 assert_eq!(run.done(), verdicts);
                 "0 9 0".to_string()
             }

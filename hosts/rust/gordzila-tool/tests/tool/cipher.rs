@@ -23,9 +23,9 @@ const BLOCK: &str = "00112233445566778899aabb";
 fn blocks_are_enciphered_and_deciphered() {
     for (key, rounds, result) in EXAMPLES {
         let options = format!("--key {key} --rounds {rounds}");
-        let there = line(&format!("encipher {options} --bytes {BLOCK}"));
+        let there = line(&format!("encipher {options} --block {BLOCK}"));
         assert_eq!(there.done(), format!("{result}\n"));
-        let back = line(&format!("decipher --bytes {result} {options}"));
+        let back = line(&format!("decipher --block {result} {options}"));
         assert_eq!(back.done(), format!("{BLOCK}\n"));
     }
 }
@@ -33,7 +33,7 @@ fn blocks_are_enciphered_and_deciphered() {
 #[test]
 fn digits_may_be_upper_case() {
     let (key, block) = (KEY.to_uppercase(), BLOCK.to_uppercase());
-    let there = line(&format!("encipher --key {key} --rounds 10 --bytes {block}"));
+    let there = line(&format!("encipher --key {key} --rounds 10 --block {block}"));
     assert_eq!(there.done(), "6edf4c9cc8219ec403e58ec8\n");
 }
 
@@ -42,7 +42,7 @@ fn the_cipher_refuses_with_1_2_3() {
     for subcommand in ["encipher", "decipher"] {
         let number = |key: &str, rounds: &str, block: &str| {
             run(&[
-                subcommand, "--key", key, "--rounds", rounds, "--bytes", block,
+                subcommand, "--key", key, "--rounds", rounds, "--block", block,
             ])
             .refused()
         };
@@ -71,7 +71,7 @@ fn a_key_may_stand_in_a_file() {
             file,
             "--rounds",
             "10",
-            "--bytes",
+            "--block",
             BLOCK,
         ]);
         assert_eq!(there.done(), "6edf4c9cc8219ec403e58ec8\n");
@@ -96,7 +96,7 @@ fn a_key_file_that_is_wrong_is_named_and_not_repeated() {
             file.to_str().unwrap(),
         ]);
         assert!(!run.err.contains(&KEY[..12]), "{run:?}");
-        run.troubled(&format!("--key-file: {}", file.display()));
+        run.stopped(&format!("--key-file: {}", file.display()));
     }
     let none = room.path("none");
     run(&[
@@ -106,8 +106,8 @@ fn a_key_file_that_is_wrong_is_named_and_not_repeated() {
         "--key-file",
         none.to_str().unwrap(),
     ])
-    .troubled("No such file");
-    line("stage --stage 0 --key-file /").troubled("--key-file: /: ");
+    .stopped("No such file");
+    line("stage --stage 0 --key-file /").stopped("--key-file: /: ");
 }
 
 #[test]

@@ -1,6 +1,6 @@
 //! `roll convert`, and what the other subcommands say of a roll from before version 0.6.
 
-use crate::running::{on_roll, run, Held, Room, KEY};
+use crate::running::{on_roll, run, Room, KEY};
 use std::fs::{self, Permissions};
 use std::os::unix::fs::{symlink, PermissionsExt};
 
@@ -55,21 +55,15 @@ fn only_400_bytes_are_converted() {
     let room = Room::new("convert-lengths");
     for (length, why) in [
         (600, "it has 600 bytes already, and is not converted"),
-        (0, "0 bytes, and a roll from before version 0.6 has 400"),
-        (399, "399 bytes, and a roll from before version 0.6 has 400"),
-        (401, "401 bytes, and a roll from before version 0.6 has 400"),
-        (599, "599 bytes, and a roll from before version 0.6 has 400"),
-        (
-            601,
-            "more than 600 bytes, and a roll from before version 0.6 has 400",
-        ),
-        (
-            4000,
-            "more than 600 bytes, and a roll from before version 0.6 has 400",
-        ),
+        (0, "not 400 bytes long"),
+        (399, "not 400 bytes long"),
+        (401, "not 400 bytes long"),
+        (599, "not 400 bytes long"),
+        (601, "not 400 bytes long"),
+        (4000, "not 400 bytes long"),
     ] {
         let roll = room.file("roll", &vec![1; length]);
-        on_roll("roll convert", &roll, "--right 2").troubled(why);
+        on_roll("roll convert", &roll, "--right 2").stopped(why);
         assert_eq!(fs::read(&roll).unwrap(), vec![1; length]);
     }
     assert_eq!(room.names(), ["roll"]);
@@ -82,7 +76,7 @@ fn a_roll_is_converted_once() {
     let old = room.old_roll(&[(7, 1)]);
     on_roll("roll convert", &old, "--right reading").done();
     let once = fs::read(&old).unwrap();
-    on_roll("roll convert", &old, "--right overwriting").troubled("has 600 bytes already");
+    on_roll("roll convert", &old, "--right overwriting").stopped("has 600 bytes already");
     assert_eq!(fs::read(&old).unwrap(), once);
 }
 
@@ -91,8 +85,8 @@ fn a_right_is_needed_and_there_are_two() {
     let room = Room::new("convert-rights");
     let old = room.old_roll(&[(7, 1)]);
     let before = fs::read(&old).unwrap();
-    on_roll("roll convert", &old, "").misused("missing: --right <R>");
-    on_roll("roll convert", &old, "--right both").misused("--right: ");
+    on_roll("roll convert", &old, "").stopped("--right is missing");
+    on_roll("roll convert", &old, "--right both").stopped("--right: ");
     for right in ["0", "3", "258"] {
         let run = on_roll("roll convert", &old, &format!("--right {right}"));
         assert_eq!(run.refused(), 7, "{right}");
@@ -120,9 +114,9 @@ fn every_other_subcommand_names_the_one_that_converts() {
         let run = on_roll(subcommand, &old, &rest);
         let named = format!("--roll: {}: 400 bytes", old.display());
         assert!(run.err.contains(&named), "{run:?}");
-        run.troubled("`gordzila roll convert`");
+        run.stopped("`gordzila roll convert`");
     }
-    on_roll("roll make", &old, "").troubled("exists, and is not replaced");
+    on_roll("roll make", &old, "").stopped("exists, and is not replaced");
     assert_eq!(fs::read(&old).unwrap(), before);
     assert_eq!(room.names(), ["grants", "old"]);
 }
@@ -160,12 +154,12 @@ fn a_conversion_replaces_the_file_as_a_change_does() {
     let old = room.old_roll(&[(7, 1)]);
     let before = fs::read(&old).unwrap();
     fs::set_permissions(&old, Permissions::from_mode(0o640)).unwrap();
-    let lock = Held::new(&old);
-    on_roll("roll convert", &old, "--right 2 --wait 0").busy("another change holds it; ");
-    drop(lock);
+    let lock = room.file("old.lock", b"");
+    on_roll("roll convert", &old, "--right 2").stopped("old.lock exists");
+    fs::remove_file(lock).unwrap();
     let second = room.path("second");
     fs::hard_link(&old, &second).unwrap();
-    on_roll("roll convert", &old, "--right 2").troubled("more than one name");
+    on_roll("roll convert", &old, "--right 2").stopped("more than one name");
     assert_eq!(fs::read(&old).unwrap(), before);
     fs::remove_file(second).unwrap();
 
@@ -183,7 +177,7 @@ fn the_words_stand_in_their_order() {
     let room = Room::new("convert-words");
     let old = room.old_roll(&[]);
     let name = old.to_str().unwrap();
-    run(&["convert", "--roll", name, "--right", "2"]).misused("`convert` is no command");
-    run(&["roll", "--roll", name, "convert"]).misused("`--roll` is not expected here");
+    run(&["convert", "--roll", name, "--right", "2"]).stopped("`convert` is no subcommand");
+    run(&["roll", "--roll", name, "convert"]).stopped("`make`, `list` or `convert`");
     assert_eq!(fs::read(&old).unwrap(), [0; 400]);
 }

@@ -68,7 +68,12 @@ fn a_reading_grant_does_not_overwrite() {
     let grant = issued(&roll, "reading");
     let check = |right| checked(&roll, &grant, right);
     assert_eq!(check("reading").done(), "opens: contractor 7, reading\n");
-    assert_eq!(check("overwriting").refused(), 10);
+    let run = check("overwriting");
+    assert_eq!(
+        run.err,
+        "refused with 10: overwriting asked of a reading grant\n"
+    );
+    assert_eq!(run.refused(), 10);
 }
 
 #[test]
@@ -156,7 +161,12 @@ fn a_demoted_contractor_looks_and_does_not_overwrite() {
     let check = |right| checked(&roll, &grant, right);
     on_roll("right", &roll, "--contractor 7 --right reading").done();
     assert_eq!(check("reading").done(), "opens: contractor 7, reading\n");
-    assert_eq!(check("overwriting").refused(), 25);
+    let run = check("overwriting");
+    assert_eq!(
+        run.err,
+        "refused with 25: right asked for above the contractor's highest\n"
+    );
+    assert_eq!(run.refused(), 25);
     // The grant from before overwrites again once its contractor is raised.
     on_roll("right", &roll, "--contractor 7 --right overwriting").done();
     assert_eq!(

@@ -1,9 +1,7 @@
 //! `seal` and `open`.
 
-use crate::running::{
-    page_keys, run, run_fed, run_unheard, sealed, Room, Run, KEY, OTHER_KEY, SECOND,
-};
-use gordzila::{encipher, open_page, seal_page, Key, PageNumber, SizeBlock};
+use crate::running::{run, run_fed, run_unheard, sealed, Room, Run, KEY, OTHER_KEY, PAGE_KEYS};
+use gordzila::{encipher, open_page, seal_page, SizeBlock};
 use std::fs;
 use std::os::unix::fs::{symlink, PermissionsExt};
 use std::path::Path;
@@ -73,7 +71,7 @@ fn a_page_says_which_it_is() {
     let room = Room::new("page-says");
     for (block, number, name) in [(1, 0, "a"), (300, 5, "b"), (u32::MAX, u16::MAX, "c")] {
         let size_block = SizeBlock::new(block).unwrap();
-        let page = seal_page(page_keys(), size_block, PageNumber(number), b"front panel").unwrap();
+        let page = seal_page(PAGE_KEYS, 10, size_block, number, b"front panel").unwrap();
         let page = room.file("page", &page);
         let opened = run(&opening(named(&page), &room.path(name))).done();
         let expected = format!("opened: size block {block}, page {number}, 11 bytes\n");
@@ -131,7 +129,7 @@ fn with_count(mut page: [u8; 512], used: u8) -> [u8; 512] {
     let last = page[..504].chunks(12).fold([0; 12], |previous, block| {
         let mut sum: [u8; 12] = previous;
         sum.iter_mut().zip(block).for_each(|(to, by)| *to ^= by);
-        encipher(Key::new(&SECOND, 10).unwrap(), &sum)
+        encipher(PAGE_KEYS.second, 10, &sum).unwrap()
     });
     page[504..].copy_from_slice(&last[..8]);
     page
@@ -184,8 +182,8 @@ fn opening_refuses_with_1_2_11_13_and_makes_no_file() {
 fn a_count_with_its_check_is_what_was_sealed() {
     let sealed = sealed(&[9; 200]);
     assert_eq!(with_count(sealed, 200), sealed);
-    let opened = open_page(page_keys(), &with_count(sealed, 200));
-    assert_eq!(opened.unwrap().payload(), [9; 200]);
+    let opened = open_page(PAGE_KEYS, 10, &with_count(sealed, 200));
+    assert_eq!(opened.unwrap().payload, [9; 200]);
 }
 
 #[test]
@@ -197,12 +195,12 @@ fn a_file_is_not_replaced() {
     symlink("nowhere", &link).unwrap();
     let page = room.file("page", &sealed(b"front panel"));
     for target in [&old, &link] {
-        run(&sealing(named(&payload), target)).troubled("exists, and is not replaced");
-        run(&opening(named(&page), target)).troubled("exists, and is not replaced");
+        run(&sealing(named(&payload), target)).stopped("exists, and is not replaced");
+        run(&opening(named(&page), target)).stopped("exists, and is not replaced");
     }
     // What is read is not written over either.
-    run(&sealing(named(&payload), &payload)).troubled("exists, and is not replaced");
-    run(&opening(named(&page), &page)).troubled("exists, and is not replaced");
+    run(&sealing(named(&payload), &payload)).stopped("exists, and is not replaced");
+    run(&opening(named(&page), &page)).stopped("exists, and is not replaced");
     assert_eq!(fs::read(&old).unwrap(), b"old");
     assert_eq!(fs::read(&payload).unwrap(), b"front panel");
     assert_eq!(room.names(), ["link", "old", "page", "payload"]);
@@ -222,14 +220,14 @@ fn a_payload_that_was_opened_is_the_owners() {
 fn files_that_cannot_be_used_are_named() {
     let room = Room::new("page-files");
     let (none, new) = (room.path("none"), room.path("new"));
-    run(&sealing(named(&none), &new)).troubled(&format!("--payload: {}: ", named(&none)));
-    run(&opening(named(&none), &new)).troubled(&format!("--page: {}: ", named(&none)));
-    run(&sealing("/", &new)).troubled("--payload: /: ");
-    run(&opening("/", &new)).troubled("--page: /: ");
+    run(&sealing(named(&none), &new)).stopped(&format!("--payload: {}: ", named(&none)));
+    run(&opening(named(&none), &new)).stopped(&format!("--page: {}: ", named(&none)));
+    run(&sealing("/", &new)).stopped("--payload: /: ");
+    run(&opening("/", &new)).stopped("--page: /: ");
     let nowhere = room.path("none/new");
     let named = |option: &str| format!("{option}: {}: ", nowhere.display());
-    run_fed(&sealing("-", &nowhere), b"").troubled(&named("--page"));
-    run_fed(&opening("-", &nowhere), &sealed(b"")).troubled(&named("--payload"));
+    run_fed(&sealing("-", &nowhere), b"").stopped(&named("--page"));
+    run_fed(&opening("-", &nowhere), &sealed(b"")).stopped(&named("--payload"));
     assert!(room.names().is_empty());
 }
 
@@ -237,8 +235,8 @@ fn files_that_cannot_be_used_are_named() {
 #[test]
 fn what_is_written_is_a_file() {
     let output = Path::new("-");
-    run_fed(&sealing("-", output), b"").misused("--page: not to standard output");
-    run_fed(&opening("-", output), b"").misused("--payload: not to standard output");
+    run_fed(&sealing("-", output), b"").stopped("--page: not to standard output");
+    run_fed(&opening("-", output), b"").stopped("--payload: not to standard output");
     assert!(!Path::new("-").exists());
 }
 
@@ -247,7 +245,7 @@ fn a_file_that_cannot_be_told_is_made() {
     let room = Room::new("page-untold");
     let payload = room.file("payload", b"front panel");
     let (page, again) = (room.path("page"), room.path("again"));
-    let untold = |words: &[String]| run_unheard(words).troubled(", but the change is made");
+    let untold = |words: &[String]| run_unheard(words).stopped(", but the change is made");
     untold(&sealing(named(&payload), &page));
     untold(&opening(named(&page), &again));
     assert_eq!(fs::read(&again).unwrap(), b"front panel");
@@ -276,7 +274,7 @@ fn the_keys_may_stand_in_files() {
     assert_eq!(open(&second, &first, "b").refused(), 13);
     let run = open(&wrong, &second, "b");
     assert!(!run.err.contains(KEY), "{run:?}");
-    run.troubled(&format!("--first-key-file: {}", named(&wrong)));
-    open(&first, &wrong, "b").troubled(&format!("--second-key-file: {}", named(&wrong)));
+    run.stopped(&format!("--first-key-file: {}", named(&wrong)));
+    open(&first, &wrong, "b").stopped(&format!("--second-key-file: {}", named(&wrong)));
     assert!(!room.path("b").exists());
 }

@@ -1,6 +1,6 @@
 //! `queue`.
 
-use crate::running::{on_roll, refusal, run, run_fed, Room, Run, KEY};
+use crate::running::{on_roll, run, run_fed, Room, Run, KEY};
 use std::fs;
 use std::path::Path;
 
@@ -52,18 +52,27 @@ fn pile(room: &Room) -> String {
     lines.concat()
 }
 
-/// The numbers with which the grants of the pile are refused, 0 for those that open.
-const FOR_OVERWRITING: [u32; 8] = [0, 10, 9, 20, 23, 8, 25, 0];
-const FOR_READING: [u32; 8] = [0, 0, 9, 20, 23, 8, 0, 0];
+const FOR_OVERWRITING: &str = "\
+1: opens
+2: refused with 10: overwriting asked of a reading grant
+3: refused with 9: grant for another size block
+4: refused with 20: contractor not in standing
+5: refused with 23: the grant's count differs from the roll's
+6: refused with 8: the deciphered bytes have a wrong mark, contractor or right
+7: refused with 25: right asked for above the contractor's highest
+8: opens
+";
 
-/// The lines with these verdicts.
-fn lines(verdicts: [u32; 8]) -> String {
-    let line = |(n, number)| match number {
-        0 => format!("{n}: opens\n"),
-        _ => format!("{n}: {}\n", refusal(number)),
-    };
-    (1..).zip(verdicts).map(line).collect()
-}
+const FOR_READING: &str = "\
+1: opens
+2: opens
+3: refused with 9: grant for another size block
+4: refused with 20: contractor not in standing
+5: refused with 23: the grant's count differs from the roll's
+6: refused with 8: the deciphered bytes have a wrong mark, contractor or right
+7: opens
+8: opens
+";
 
 #[test]
 fn each_grant_gets_a_line_with_its_verdict() {
@@ -71,11 +80,8 @@ fn each_grant_gets_a_line_with_its_verdict() {
     let text = pile(&room);
     let (roll, grants) = (room.path("roll"), room.file("grants", text.as_bytes()));
     for (right, expected) in [("overwriting", FOR_OVERWRITING), ("reading", FOR_READING)] {
-        assert_eq!(queued(&roll, &grants, right).done(), lines(expected));
-        assert_eq!(
-            queued_from_input(&roll, &text, right).done(),
-            lines(expected)
-        );
+        assert_eq!(queued(&roll, &grants, right).done(), expected);
+        assert_eq!(queued_from_input(&roll, &text, right).done(), expected);
     }
 }
 
@@ -92,7 +98,7 @@ fn each_verdict_is_that_of_check() {
             let single = on_roll("check", &roll, &options);
             match single.status {
                 Some(0) => assert_eq!(verdict, format!("{n}: opens")),
-                _ => assert_eq!(verdict, format!("{n}: {}", refusal(single.refused()))),
+                _ => assert_eq!(verdict, format!("{n}: {}", single.err.trim_end())),
             }
         }
     }
@@ -104,7 +110,7 @@ fn blank_lines_are_left_out() {
     let text = pile(&room).replace('\n', " \r\n\n");
     let roll = room.path("roll");
     let run = queued_from_input(&roll, &format!("\n  {text}"), "overwriting");
-    assert_eq!(run.done(), lines(FOR_OVERWRITING));
+    assert_eq!(run.done(), FOR_OVERWRITING);
 }
 
 #[test]
@@ -181,13 +187,13 @@ fn a_line_that_is_no_grant_is_named() {
         let text = format!("{KEY}\n\n{wrong}\n{KEY}\n");
         let grants = room.file("grants", text.as_bytes());
         let named = format!("--grants: {}: line 3: {why}", grants.display());
-        queued(&roll, &grants, "2").troubled(&named);
+        queued(&roll, &grants, "2").stopped(&named);
         let run = queued_from_input(&roll, &text, "2");
         // A grant opens for whoever has it: the message does not show any.
         assert!(!run.err.contains(&KEY[4..20]), "{run:?}");
-        run.troubled(&format!("--grants: standard input: line 3: {why}"));
+        run.stopped(&format!("--grants: standard input: line 3: {why}"));
         // It cannot be used, also where the library would refuse the right.
-        queued(&roll, &grants, "3").troubled("line 3: ");
+        queued(&roll, &grants, "3").stopped("line 3: ");
     }
 }
 
@@ -196,14 +202,14 @@ fn grants_that_cannot_be_read_are_named() {
     let room = Room::new("queue-files");
     let roll = room.roll(&[]);
     let missing = room.path("missing");
-    queued(&roll, &missing, "2").troubled(&format!("--grants: {}: ", missing.display()));
+    queued(&roll, &missing, "2").stopped(&format!("--grants: {}: ", missing.display()));
     let directory = missing.parent().unwrap();
-    queued(&roll, directory, "2").troubled(&format!("--grants: {}: ", directory.display()));
+    queued(&roll, directory, "2").stopped(&format!("--grants: {}: ", directory.display()));
     // What has no end is not read to it.
-    queued(&roll, Path::new("/dev/zero"), "2").troubled("more than 65536 bytes");
+    queued(&roll, Path::new("/dev/zero"), "2").stopped("more than 65536 bytes");
     let blank = |n| queued_from_input(&roll, &"\n".repeat(n), "2");
     assert_eq!(blank(65_536).done(), "");
-    blank(65_537).troubled("--grants: standard input: more than 65536 bytes");
+    blank(65_537).stopped("--grants: standard input: more than 65536 bytes");
 }
 
 #[test]
@@ -212,7 +218,7 @@ fn a_roll_of_another_size_cannot_be_used() {
     for length in [0, 399, 401, 599, 601] {
         let roll = room.file("roll", &vec![0; length]);
         for text in ["", KEY] {
-            queued_from_input(&roll, text, "2").troubled("bytes, and a roll has 600");
+            queued_from_input(&roll, text, "2").stopped("not 600 bytes long");
         }
     }
 }
@@ -247,5 +253,5 @@ fn the_key_may_stand_in_a_file() {
         grants,
     ];
     words.extend(["--rounds", "10", "--block", "300", "--right", "overwriting"]);
-    assert_eq!(run(&words).done(), lines(FOR_OVERWRITING));
+    assert_eq!(run(&words).done(), FOR_OVERWRITING);
 }

@@ -10,14 +10,8 @@ fn an_empty_roll_is_made() {
     let printed = on_roll("roll make", &roll, "").done();
     assert_eq!(printed, "made: a roll on which nobody was ever entered\n");
     assert_eq!(fs::read(&roll).unwrap(), empty_roll());
-    for (rest, note) in [
-        ("", "nobody is in standing\n"),
-        ("--all", "nobody was ever entered\n"),
-    ] {
-        let listed = on_roll("roll list", &roll, rest);
-        assert_eq!((listed.status, &listed.out[..]), (Some(0), ""));
-        assert_eq!(listed.err, note);
-    }
+    let listed = on_roll("roll list", &roll, "").done();
+    assert_eq!(listed, "nobody is in standing\n");
     assert_eq!(room.names(), ["roll"]);
 }
 
@@ -26,19 +20,19 @@ fn a_file_is_not_replaced_by_an_empty_roll() {
     let room = Room::new("make-over");
     let roll = room.roll(&[(7, 2)]);
     let before = fs::read(&roll).unwrap();
-    on_roll("roll make", &roll, "").troubled("exists, and is not replaced");
+    on_roll("roll make", &roll, "").stopped("exists, and is not replaced");
     assert_eq!(fs::read(&roll).unwrap(), before);
     let link = room.path("link");
     std::os::unix::fs::symlink("nowhere", &link).unwrap();
-    on_roll("roll make", &link, "").troubled("exists, and is not replaced");
+    on_roll("roll make", &link, "").stopped("exists, and is not replaced");
     assert_eq!(room.names(), ["link", "roll"]);
 }
 
 #[test]
 fn a_roll_cannot_be_made_in_no_directory() {
     let room = Room::new("make-nowhere");
-    on_roll("roll make", &room.path("none/roll"), "").troubled("--roll: ");
-    on_roll("roll make", &room.path(".."), "").troubled("not the name of a file");
+    on_roll("roll make", &room.path("none/roll"), "").stopped("--roll: ");
+    on_roll("roll make", &room.path(".."), "").stopped("not the name of a file");
     assert!(room.names().is_empty());
 }
 
@@ -68,28 +62,6 @@ contractor 5, count 1, reading
 contractor 6, count 1, reading
 contractor 7, count 65533, overwriting
 contractor 200, count 1, overwriting
-";
-    assert_eq!(listed, expected);
-}
-
-#[test]
-fn all_are_listed_who_were_ever_entered() {
-    let room = Room::new("list-all");
-    let entries = [
-        (1, 3, 2),
-        (2, 2, 2),
-        (3, 1, 1),
-        (8, 65_534, 1),
-        (9, 65_535, 2),
-    ];
-    let roll = room.roll_with(&entries);
-    let listed = on_roll("roll list", &roll, "--all").done();
-    let expected = "\
-contractor 1, count 3, overwriting
-contractor 2, count 2, withdrawn
-contractor 3, count 1, reading
-contractor 8, count 65534, withdrawn
-contractor 9, count 65535, withdrawn
 ";
     assert_eq!(listed, expected);
 }
@@ -214,7 +186,7 @@ fn a_roll_has_600_bytes() {
             ("withdraw", "--contractor 1"),
             ("roll list", ""),
         ] {
-            on_roll(subcommand, &roll, rest).troubled("bytes, and a roll has 600");
+            on_roll(subcommand, &roll, rest).stopped("not 600 bytes long");
         }
         assert_eq!(fs::read(&roll).unwrap(), vec![0; length]);
     }
@@ -226,10 +198,10 @@ fn a_roll_that_cannot_be_read_is_named() {
     let room = Room::new("unreadable");
     for path in [room.path("none"), room.path(".")] {
         let named = format!("--roll: {}", path.display());
-        on_roll("roll list", &path, "").troubled(&named);
-        on_roll("enter", &path, "--contractor 1 --right 2").troubled(&named);
-        on_roll("right", &path, "--contractor 1 --right 2").troubled(&named);
-        on_roll("roll convert", &path, "--right 2").troubled(&named);
+        on_roll("roll list", &path, "").stopped(&named);
+        on_roll("enter", &path, "--contractor 1 --right 2").stopped(&named);
+        on_roll("right", &path, "--contractor 1 --right 2").stopped(&named);
+        on_roll("roll convert", &path, "--right 2").stopped(&named);
     }
     assert!(room.names().is_empty());
 }

@@ -1,7 +1,6 @@
 //! What the tests share: running the tool, and a directory for each test.
 
-use fd_lock::{RwLock, RwLockWriteGuard};
-use gordzila::{seal_page, PageKeys, PageNumber, SizeBlock};
+use gordzila::{seal_page, PageKeys, SizeBlock};
 use std::ffi::OsStr;
 use std::fs::{self, File};
 use std::io::Write;
@@ -17,21 +16,18 @@ pub const KEY: &str = "000102030405060708090a0b";
 /// Another key of 12 bytes.
 pub const OTHER_KEY: &str = "0f1e2d3c4b5a69788796a5b4";
 
-/// The same two, in bytes.
-const FIRST: [u8; 12] = [0, 1, 2, 3, 4, 5, 6, 7, 8, 9, 10, 11];
-pub const SECOND: [u8; 12] = [
-    0x0f, 0x1e, 0x2d, 0x3c, 0x4b, 0x5a, 0x69, 0x78, 0x87, 0x96, 0xa5, 0xb4,
-];
+/// The two as keys of pages.
+pub const PAGE_KEYS: PageKeys<'static> = PageKeys {
+    first: &[0, 1, 2, 3, 4, 5, 6, 7, 8, 9, 10, 11],
+    second: &[
+        0x0f, 0x1e, 0x2d, 0x3c, 0x4b, 0x5a, 0x69, 0x78, 0x87, 0x96, 0xa5, 0xb4,
+    ],
+};
 
-/// The two as keys of pages, with 10 rounds.
-pub fn page_keys() -> PageKeys<'static> {
-    PageKeys::new(&FIRST, &SECOND, 10).unwrap()
-}
-
-/// Page 4 of size block 300 under these keys.
+/// Page 4 of size block 300 under these keys with 10 rounds.
 pub fn sealed(payload: &[u8]) -> [u8; 512] {
     let block = SizeBlock::new(300).unwrap();
-    seal_page(page_keys(), block, PageNumber(4), payload).unwrap()
+    seal_page(PAGE_KEYS, 10, block, 4, payload).unwrap()
 }
 
 /// What a run of the tool came to.
@@ -60,72 +56,26 @@ impl Run {
         self.out
     }
 
-    /// The number with which it was refused. The status is by the rules: 3 where the reason
-    /// is in the input, 1 where it is in what the roll, the grant or the page holds.
+    /// The number with which it was refused.
     #[track_caller]
     pub fn refused(self) -> u32 {
-        assert_eq!(self.out, "", "{self:?}");
-        let (number, _) = number_and_words(&self.err);
-        assert_eq!(self.err, refusal_lines(number), "{self:?}");
-        assert_eq!(self.status, Some(status_of(number)), "{self:?}");
+        assert_eq!((self.status, self.out.as_str()), (Some(1), ""), "{self:?}");
+        let rest = self.err.strip_prefix("refused with ").unwrap();
+        let (number, words) = rest.trim_end().split_once(": ").unwrap();
+        let number = number.parse().unwrap();
+        let reason = gordzila::Reason::from_number(number).unwrap();
+        assert_eq!(words, reason.to_string());
         number
     }
 
-    /// Sees that it was bad usage, with a message that has these words.
+    /// Sees that it ended with status 2 and a message that has these words.
     #[track_caller]
-    pub fn misused(self, words: &str) {
-        self.stopped(2, words);
-    }
-
-    /// Sees that a file or a standard stream could not be used, likewise.
-    #[track_caller]
-    pub fn troubled(self, words: &str) {
-        self.stopped(4, words);
-    }
-
-    /// Sees that another change held the roll, likewise.
-    #[track_caller]
-    pub fn busy(self, words: &str) {
-        assert!(self.err.ends_with("; nothing was changed\n"), "{self:?}");
-        self.stopped(5, words);
-    }
-
-    #[track_caller]
-    fn stopped(self, status: i32, words: &str) {
-        let told = (self.status, self.out.as_str());
-        assert_eq!(told, (Some(status), ""), "{self:?}");
+    pub fn stopped(self, words: &str) {
+        assert_eq!((self.status, self.out.as_str()), (Some(2), ""), "{self:?}");
         assert!(self.err.starts_with("gordzila: "), "{self:?}");
         assert!(self.err.contains(words), "{words}: {self:?}");
         assert_eq!(self.err.lines().count(), 1, "{self:?}");
     }
-}
-
-/// The exit status with which a reason refuses.
-pub fn status_of(number: u32) -> i32 {
-    match number {
-        8..=11 | 13 | 20..=25 => 1,
-        1..=7 | 12 | 14 => 3,
-        _ => panic!("{number}"),
-    }
-}
-
-/// The number and the words after `refused with `.
-fn number_and_words(text: &str) -> (u32, &str) {
-    let rest = text.strip_prefix("refused with ").unwrap();
-    let (number, words) = rest.split_once(": ").unwrap();
-    (number.parse().unwrap(), words)
-}
-
-/// The line of a refusal, by the wrapper's words.
-pub fn refusal(number: u32) -> String {
-    let reason = gordzila::Reason::from_number(number).unwrap();
-    format!("refused with {number}: {reason}")
-}
-
-/// And with what to do.
-pub fn refusal_lines(number: u32) -> String {
-    let remedy = gordzila::Reason::from_number(number).unwrap().remedy();
-    format!("{}\n  what to do: {remedy}\n", refusal(number))
 }
 
 /// Runs the tool with words.
@@ -159,24 +109,6 @@ pub fn run_unheard<S: AsRef<OsStr>>(words: &[S]) -> Run {
 /// Runs the tool with the words of a line.
 pub fn line(line: &str) -> Run {
     run(&line.split_whitespace().collect::<Vec<_>>())
-}
-
-/// Runs the tool with words, with standard output closed.
-pub fn run_closed<S: AsRef<OsStr>>(words: &[S]) -> Run {
-    let mut shell = Command::new("sh");
-    shell.args(["-c", "exec \"$@\" >&-", "sh", TOOL]);
-    shell.args(words).output().unwrap().into()
-}
-
-/// A lock on a file, as another process that changes it has it, until this goes.
-#[allow(dead_code)] // It is held, and not looked at.
-pub struct Held(RwLockWriteGuard<'static, File>);
-
-impl Held {
-    pub fn new(path: &Path) -> Held {
-        let lock = Box::leak(Box::new(RwLock::new(File::open(path).unwrap())));
-        Held(lock.try_write().unwrap())
-    }
 }
 
 /// A new directory for one test, which goes with this.
@@ -224,12 +156,6 @@ impl Room {
             put_count(&mut bytes, contractor, count);
         }
         self.file("old", &bytes)
-    }
-
-    /// The names and bytes of the files in it, in order.
-    pub fn contents(&self) -> Vec<(String, Vec<u8>)> {
-        let read = |name: String| (name.clone(), fs::read(self.path(&name)).unwrap());
-        self.names().into_iter().map(read).collect()
     }
 
     /// The names of the files in it, in order.

@@ -119,6 +119,6 @@ fn a_walk_refuses_with_1_5() {
     assert_eq!(number(KEY, "4294967295", "0"), 5);
     assert_eq!(number(KEY, "0", "4294967295"), 5);
     // Bad usage comes before what the library refuses.
-    walk("0011", "0", "x").misused("--to: ");
-    walk(KEY, "99", "x").misused("--to: ");
+    walk("0011", "0", "x").stopped("--to: ");
+    walk(KEY, "99", "x").stopped("--to: ");
 }

@@ -1,14 +1,12 @@
 //! How a roll's file is replaced: as a whole or not at all, by one process at a time.
 
-use crate::running::{empty_roll, on_roll, run_unheard, Held, Room, Run, TOOL};
-use std::env;
+use crate::running::{empty_roll, on_roll, run_unheard, Room, Run, TOOL};
 use std::ffi::OsStr;
 use std::fs::{self, File, OpenOptions, Permissions};
 use std::io::{ErrorKind, Read, Write};
 use std::os::unix::fs::{symlink, MetadataExt, PermissionsExt};
-use std::os::unix::process::CommandExt;
 use std::path::Path;
-use std::process::{self, Child, Command, Stdio};
+use std::process::{Child, Command, Stdio};
 use std::thread;
 
 /// Enters contractor 1 from a shell that first runs other commands.
@@ -34,7 +32,7 @@ fn a_write_that_fails_leaves_the_old_file() {
     let before = fs::read(&roll).unwrap();
     // No file may grow: the temporary file can be made, but not filled.
     let run = enter_after("trap '' XFSZ; ulimit -f 0", &roll);
-    run.troubled(&format!("--roll: {}", roll.display()));
+    run.stopped(&format!("--roll: {}", roll.display()));
     assert_eq!(fs::read(&roll).unwrap(), before);
     assert_eq!(room.names(), ["roll"]);
 }
@@ -53,8 +51,8 @@ fn a_read_only_directory_leaves_the_old_file() {
     let run = on_roll("enter", &roll, "--contractor 1 --right 2");
     let make = on_roll("roll make", &room.path("new"), "");
     fs::set_permissions(directory, Permissions::from_mode(0o755)).unwrap();
-    run.troubled("Permission denied");
-    make.troubled("Permission denied");
+    run.stopped("Permission denied");
+    make.stopped("Permission denied");
     assert_eq!(fs::read(&roll).unwrap(), before);
     assert_eq!(room.names(), ["roll"]);
 }
@@ -69,64 +67,10 @@ fn a_file_of_another_owner_is_left_alone() {
     }
     let given = Command::new("chown").arg("12345").arg(&roll).status();
     assert!(given.unwrap().success());
-    on_roll("enter", &roll, "--contractor 1 --right 2").troubled("belongs to user 12345");
+    on_roll("enter", &roll, "--contractor 1 --right 2").stopped("belongs to user 12345");
     assert_eq!(fs::read(&roll).unwrap(), empty_roll());
     assert_eq!(fs::metadata(&roll).unwrap().uid(), 12345);
     assert_eq!(room.names(), ["roll"]);
-}
-
-/// People of one group share a roll in a directory of that group, and nobody else changes
-/// it. Only root can be several people.
-#[test]
-fn people_of_one_group_share_a_roll() {
-    let directory = env::temp_dir().join(format!("gordzila-shared-{}", process::id()));
-    fs::create_dir(&directory).unwrap();
-    let (tool, roll) = (directory.join("tool"), directory.join("roll"));
-    fs::copy(TOOL, &tool).unwrap();
-    fs::write(&roll, [0; 600]).unwrap();
-    if is_root(&roll) {
-        // New files in a directory with this mode get its group.
-        chown(&directory, 1, 100);
-        fs::set_permissions(&directory, Permissions::from_mode(0o2775)).unwrap();
-        chown(&roll, 1, 100);
-        let enter = |contractor: &str, user: u32| -> Run {
-            let mut command = Command::new(&tool);
-            command.args([
-                "enter",
-                "--right",
-                "2",
-                "--contractor",
-                contractor,
-                "--roll",
-            ]);
-            command
-                .arg(&roll)
-                .uid(user)
-                .gid(100)
-                .output()
-                .unwrap()
-                .into()
-        };
-        fs::set_permissions(&roll, Permissions::from_mode(0o664)).unwrap();
-        enter("1", 1).done();
-        enter("2", 5).done();
-        enter("3", 1).done();
-        let shared = fs::metadata(&roll).unwrap();
-        assert_eq!((shared.gid(), shared.mode() & 0o777), (100, 0o664));
-        // Who owns the roll may do more than the group, and would be left with less.
-        fs::set_permissions(&roll, Permissions::from_mode(0o644)).unwrap();
-        enter("4", 5).troubled("run the tool as user 1 and group 100");
-        enter("4", 1).done();
-    } else {
-        eprintln!("skipped: only root can be several people");
-    }
-    fs::remove_dir_all(&directory).unwrap();
-}
-
-fn chown(path: &Path, user: u32, group: u32) {
-    let owner = format!("{user}:{group}");
-    let status = Command::new("chown").arg(owner).arg(path).status();
-    assert!(status.unwrap().success());
 }
 
 #[test]
@@ -168,9 +112,9 @@ fn a_file_with_a_second_name_is_left_alone() {
     symlink("second", &link).unwrap();
     let why = "it has more than one name (hard links); the others would keep the old roll";
     for name in [&roll, &second, &link] {
-        on_roll("enter", name, "--contractor 1 --right 2").troubled(why);
-        on_roll("right", name, "--contractor 7 --right 1").troubled(why);
-        on_roll("withdraw", name, "--contractor 7").troubled(why);
+        on_roll("enter", name, "--contractor 1 --right 2").stopped(why);
+        on_roll("right", name, "--contractor 7 --right 1").stopped(why);
+        on_roll("withdraw", name, "--contractor 7").stopped(why);
         assert_eq!(fs::read(name).unwrap(), before);
         // Reading goes on.
         let listed = on_roll("roll list", name, "").done();
@@ -190,7 +134,7 @@ fn a_change_that_cannot_be_told_is_made() {
         words.extend([OsStr::new("--roll"), roll.as_os_str()]);
         let run = run_unheard(&words);
         assert!(run.err.contains("standard output: "), "{run:?}");
-        run.troubled(", but the change is made");
+        run.stopped(", but the change is made");
         let bytes = fs::read(&roll).unwrap();
         (bytes.len(), bytes[1], bytes[400])
     };
@@ -223,7 +167,7 @@ fn a_file_that_comes_meanwhile_is_not_replaced() {
         let came = comes_meanwhile(&roll, &room, &mut making);
         let run = Run::from(making.wait_with_output().unwrap());
         if came {
-            run.troubled("exists, and is not replaced");
+            run.stopped("exists, and is not replaced");
             assert_eq!(fs::read(&roll).unwrap(), b"other");
         } else {
             run.done();
@@ -262,28 +206,54 @@ fn a_link_stays_a_link() {
     assert!(fs::symlink_metadata(&link).unwrap().is_symlink());
     assert_eq!(fs::read(&roll).unwrap()[1], 1);
     // The lock is on the file, whatever name it is reached by.
-    let _lock = Held::new(&roll);
-    on_roll("withdraw", &link, "--contractor 1 --wait 0").busy("another change holds it; ");
+    room.file("roll.lock", b"");
+    on_roll("withdraw", &link, "--contractor 1").stopped("roll.lock exists");
 }
 
-/// A temporary file of a killed process stops nobody, and goes with the next change; also
-/// one that is a second name of the roll, as `roll make` may leave it. Others stay.
 #[test]
-fn what_killed_processes_left_is_removed() {
-    let room = Room::new("left");
-    let roll = room.roll(&[]);
-    room.file(".roll.123.0123456789abcdef.tmp", b"half");
-    fs::hard_link(&roll, room.path(".roll.4.fedcba9876543210.tmp")).unwrap();
-    let others = [
-        ".other.123.0123456789abcdef.tmp",
-        ".roll.123.0123456789abcde.tmp",
-        ".roll.x.0123456789abcdef.tmp",
-    ];
-    for name in others {
-        room.file(name, b"other");
-    }
+fn a_lock_keeps_other_changes_off() {
+    let room = Room::new("lock");
+    let roll = room.roll(&[(2, 1)]);
+    let before = fs::read(&roll).unwrap();
+    let lock = room.file("roll.lock", b"");
+    on_roll("enter", &roll, "--contractor 1 --right 2").stopped("roll.lock exists");
+    on_roll("right", &roll, "--contractor 2 --right 1").stopped("roll.lock exists");
+    on_roll("withdraw", &roll, "--contractor 2").stopped("roll.lock exists");
+    assert_eq!(fs::read(&roll).unwrap(), before);
+    assert_eq!(room.names(), ["roll", "roll.lock"]);
+    // Reading goes on.
+    let listed = on_roll("roll list", &roll, "").done();
+    assert_eq!(listed, "contractor 2, count 1, overwriting\n");
+    fs::remove_file(lock).unwrap();
     on_roll("enter", &roll, "--contractor 1 --right 2").done();
-    let mut expected = others.map(str::to_string).to_vec();
-    expected.push("roll".to_string());
-    assert_eq!(room.names(), expected);
+}
+
+#[test]
+fn no_change_gets_lost() {
+    let room = Room::new("at-once");
+    let roll = room.roll(&[]);
+    thread::scope(|scope| {
+        for contractor in 1..=8 {
+            let roll = &roll;
+            scope.spawn(move || enter_at_last(roll, contractor));
+        }
+    });
+    let expected: String = (1..=8)
+        .map(|contractor| format!("contractor {contractor}, count 1, reading\n"))
+        .collect();
+    assert_eq!(on_roll("roll list", &roll, "").done(), expected);
+    assert_eq!(room.names(), ["roll"]);
+}
+
+/// Enters a contractor, again and again while others hold the lock.
+fn enter_at_last(roll: &Path, contractor: u32) {
+    loop {
+        let rest = format!("--contractor {contractor} --right reading");
+        let run = on_roll("enter", roll, &rest);
+        if run.status == Some(0) {
+            return;
+        }
+        run.stopped("roll.lock exists");
+        thread::yield_now();
+    }
 }

@@ -4,29 +4,17 @@
 use crate::header::in_one_line;
 use crate::pages::{header, page_of};
 use crate::refusals::numbered;
-use crate::{block, key, page_keys, repository_file, SEVEN};
-use gordzila::{check, check_queue, decipher, encipher, issue, open_page, raw, seal_page};
-use gordzila::{
-    Grant, Key, Opened, OpenedPage, PageKeys, PageNumber, Reason, Right, Roll, SizeBlock,
-};
+use crate::{block, repository_file};
+use gordzila::{check, check_queue, encipher, issue, open_page, raw, seal_page};
+use gordzila::{Opened, OpenedPage, PageKeys, Reason, Right, Roll, SizeBlock};
 use Right::{Overwriting, Reading};
 
 const KEY: [u8; 12] = [9; 12];
 const ROUNDS: u32 = 10;
-const PAIR: raw::KeyPair<'static> = raw::KeyPair {
+const KEYS: PageKeys<'static> = PageKeys {
     first: &KEY,
     second: &[8; 12],
 };
-
-/// The key with its rounds.
-fn the_key() -> Key<'static> {
-    key(&KEY, ROUNDS)
-}
-
-/// The pair with the same rounds.
-fn the_keys() -> PageKeys<'static> {
-    page_keys(PAIR.first, PAIR.second, ROUNDS)
-}
 
 /// Numbers that are not 0. Some have one byte alone that is not, each in another place.
 const OTHERS: [u32; 6] = [1, 256, 300, 65_536, 1 << 24, u32::MAX];
@@ -39,10 +27,10 @@ fn roll(count: u8, highest: u8) -> Roll {
 }
 
 /// A grant to contractor 7 for size block 0 at count 1, as it was issued before version 0.7.
-fn old_grant(right: Right) -> Grant {
+fn old_grant(right: Right) -> [u8; 12] {
     let right = right.number() as u8;
     let plain = [0, 7, 0, 1, 0, 0, 0, 0, right, 0x47, 0x52, 0x44];
-    encipher(the_key(), &plain).into()
+    encipher(&KEY, ROUNDS, &plain).unwrap()
 }
 
 /// The numbers that the calls answer for a size block, with all else right: the issue, the
@@ -60,7 +48,7 @@ fn numbers(size_block: u32) -> [u32; 4] {
         }),
         numbered(513, 512, |out| {
             let scratch = &mut [1; 576];
-            let number = raw::seal_page_number(PAIR, ROUNDS, size_block, 4, b"", scratch, out);
+            let number = raw::seal_page_number(KEYS, ROUNDS, size_block, 4, b"", scratch, out);
             assert_eq!(number == 0, *scratch == [0; 576]);
             assert!(number == 0 || *scratch == [1; 576]);
             number
@@ -91,10 +79,11 @@ fn a_number_that_comes_in_is_refused_with_the_same_reason() {
 fn a_blank_form_spoils_no_grant() {
     let roll = roll(1, 2);
     for other in OTHERS {
-        let grant = issue(the_key(), &roll, SEVEN, block(other), Overwriting).unwrap();
+        let grant = issue(&KEY, ROUNDS, &roll, 7, block(other), Overwriting).unwrap();
         for right in [Reading, Overwriting] {
-            let (roll, grant, contractor) = (roll.bytes(), grant.bytes(), SEVEN);
-            let asked = |number| raw::check(&KEY, ROUNDS, roll, grant, number, right.number());
+            let asked =
+                |number| raw::check(&KEY, ROUNDS, roll.bytes(), &grant, number, right.number());
+            let contractor = 7;
             assert_eq!(asked(0), Err(Reason::BlockZero));
             assert_eq!(asked(other), Ok(Opened { contractor, right }));
         }
@@ -110,13 +99,13 @@ fn an_old_grant_opens_nothing() {
         for (of, asked) in [(1, 1), (1, 2), (2, 1), (2, 2)] {
             let [of, asked] = [of, asked].map(|number| Right::from_number(number).unwrap());
             let (grant, right) = (old_grant(of), asked.number());
-            let for_0 = raw::check(&KEY, ROUNDS, roll.bytes(), grant.bytes(), 0, right);
+            let for_0 = raw::check(&KEY, ROUNDS, roll.bytes(), &grant, 0, right);
             assert_eq!(for_0, Err(Reason::BlockZero));
             for other in OTHERS.map(block) {
-                let single = check(the_key(), &roll, &grant, other, asked);
+                let single = check(&KEY, ROUNDS, &roll, &grant, other, asked);
                 assert_eq!(single, Err(Reason::OtherBlock), "{other}");
-                let queued = check_queue(the_key(), &roll, &[grant], other, asked).unwrap();
-                assert_eq!(*queued, [Err(Reason::OtherBlock)], "{other}");
+                let queued = check_queue(&KEY, ROUNDS, &roll, &[grant], other, asked);
+                assert_eq!(queued, Ok(vec![Err(Reason::OtherBlock)]), "{other}");
             }
         }
     }
@@ -127,12 +116,12 @@ fn an_old_grant_opens_nothing() {
 #[test]
 fn an_old_grant_differs_from_others_in_its_size_block_alone() {
     let roll = roll(1, 2);
-    let mut plain = decipher(the_key(), old_grant(Overwriting).bytes());
+    let mut plain = gordzila::decipher(&KEY, ROUNDS, &old_grant(Overwriting)).unwrap();
     plain[7] = 1;
-    let grant = Grant::from(encipher(the_key(), &plain));
-    let issued = issue(the_key(), &roll, SEVEN, block(1), Overwriting);
+    let grant = encipher(&KEY, ROUNDS, &plain).unwrap();
+    let issued = issue(&KEY, ROUNDS, &roll, 7, block(1), Overwriting);
     assert_eq!(issued, Ok(grant));
-    assert!(check(the_key(), &roll, &grant, block(1), Overwriting).is_ok());
+    assert!(check(&KEY, ROUNDS, &roll, &grant, block(1), Overwriting).is_ok());
 }
 
 /// Who has an old grant stays in standing, and goes on with grants for other size blocks.
@@ -140,23 +129,28 @@ fn an_old_grant_differs_from_others_in_its_size_block_alone() {
 fn the_contractor_of_an_old_grant_stays_in_standing() {
     let before = roll(1, 2);
     let mut roll = before.clone();
-    let grant = old_grant(Overwriting);
-    let _ = check(the_key(), &roll, &grant, block(300), Reading);
-    assert!(roll.in_standing(SEVEN));
-    assert_eq!(roll.enter(SEVEN, Reading), Err(Reason::InStanding));
-    let grant = issue(the_key(), &roll, SEVEN, block(300), Overwriting).unwrap();
+    let _ = check(
+        &KEY,
+        ROUNDS,
+        &roll,
+        &old_grant(Overwriting),
+        block(300),
+        Reading,
+    );
+    assert!(roll.in_standing(7));
+    assert_eq!(roll.enter(7, Reading), Err(Reason::InStanding));
+    let grant = issue(&KEY, ROUNDS, &roll, 7, block(300), Overwriting).unwrap();
     let pile = [old_grant(Overwriting), grant, old_grant(Reading)];
-    let verdicts = check_queue(the_key(), &roll, &pile, block(300), Overwriting).unwrap();
+    let verdicts = check_queue(&KEY, ROUNDS, &roll, &pile, block(300), Overwriting);
     let old = Err(Reason::OtherBlock);
-    assert_eq!(*verdicts, [old, Ok(()), old]);
+    assert_eq!(verdicts, Ok(vec![old, Ok(()), old]));
     assert_eq!(roll, before);
 }
 
 /// Old grants and their like, asked for 0 in one queue: no byte is written.
 #[test]
 fn a_queue_for_0_has_no_verdicts() {
-    let (overwriting, reading) = (old_grant(Overwriting), old_grant(Reading));
-    let pile = [*overwriting.bytes(), [0; 12], *reading.bytes()].concat();
+    let pile = [old_grant(Overwriting), [0; 12], old_grant(Reading)].concat();
     for n in 0..=3 {
         let number = numbered(5, n, |answers| {
             let (roll, grants) = (roll(1, 2), &pile[..12 * n]);
@@ -169,20 +163,23 @@ fn a_queue_for_0_has_no_verdicts() {
 #[test]
 fn an_old_page_opens_and_is_not_sealed_again() {
     for used in [0, 1, 12, 300, 492] {
-        let (payload, page_number) = (vec![5; used], PageNumber(4));
-        let page = page_of(the_keys(), header(0, 4, used as u16), &payload);
-        let opened = open_page(the_keys(), &page).unwrap();
+        let (payload, page_number) = (vec![5; used], 4);
+        let page = page_of(KEYS, ROUNDS, header(0, page_number, used as u16), &payload);
+        let opened = open_page(KEYS, ROUNDS, &page).unwrap();
         assert_eq!((opened.size_block, opened.page_number), (0, page_number));
-        assert_eq!(opened.payload(), payload);
+        assert_eq!(opened.payload, payload);
         assert_eq!(SizeBlock::new(opened.size_block), None);
         let (scratch, mut out) = (&mut [0; 576], [7; 512]);
-        let again = raw::seal_page(PAIR, ROUNDS, 0, 4, &payload, scratch, &mut out);
+        let again = raw::seal_page(KEYS, ROUNDS, 0, page_number, &payload, scratch, &mut out);
         assert_eq!((again, out), (Err(Reason::BlockZero), [7; 512]));
         // What it holds is kept up to date in a page of another size block.
-        let kept = seal_page(the_keys(), block(300), page_number, opened.payload()).unwrap();
-        let mut expected: OpenedPage = opened.clone();
-        expected.size_block = 300;
-        assert_eq!(open_page(the_keys(), &kept), Ok(expected));
+        let kept = seal_page(KEYS, ROUNDS, block(300), page_number, &opened.payload).unwrap();
+        let size_block = 300;
+        let expected = OpenedPage {
+            size_block,
+            ..opened
+        };
+        assert_eq!(open_page(KEYS, ROUNDS, &kept), Ok(expected));
     }
 }
 
@@ -190,8 +187,8 @@ fn an_old_page_opens_and_is_not_sealed_again() {
 #[test]
 fn the_header_tells_of_size_block_0() {
     let text = repository_file("include/gordzila.h");
-    let (rest, changes) = text.split_once("\n * Changes in 0.7.0").unwrap();
-    let (changes, _) = changes.split_once("\n * Changes in ").unwrap();
+    let (_, changes) = text.split_once("\n * Changes in 0.7.0").unwrap();
+    let (changes, rest) = changes.split_once("\n * Changes in ").unwrap();
     let changes = in_one_line(&changes.replace("\n *", "\n"));
     for words in [
         "for hosts that were written for 0.6",
@@ -217,4 +214,14 @@ fn the_header_tells_of_size_block_0() {
     ] {
         assert!(rest.contains(order), "{order}");
     }
+}
+
+/// The example has words for it.
+#[test]
+fn the_example_in_c_has_words_for_14() {
+    let example = repository_file("hosts/c/plotter.c");
+    assert!(example.contains("case GORDZILA_BLOCK_ZERO:"));
+    let printed = repository_file("hosts/c/plotter.expected");
+    let refused = "overwrite size block 0: refused with 14, size block number left blank\n";
+    assert!(printed.contains(refused), "{printed}");
 }

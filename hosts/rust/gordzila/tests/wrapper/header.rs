@@ -24,23 +24,6 @@ fn the_reasons_have_the_numbers_and_words_of_the_header() {
     assert_eq!(found, Reason::ALL.len());
 }
 
-/// What the example in C has to print, with each reason's number and words.
-#[test]
-fn the_example_in_c_has_the_words_of_the_header() {
-    let printed = repository_file("hosts/c/plotter.expected");
-    let refusals = printed.split("refused with ").skip(1);
-    let mut found = Vec::new();
-    for line in refusals.map(|rest| rest.lines().next().unwrap()) {
-        let (number, words) = line.split_once(", ").unwrap();
-        let number = number.parse().unwrap();
-        assert_eq!(Reason::from_number(number).unwrap().text(), words);
-        found.push(number);
-    }
-    found.sort_unstable();
-    found.dedup();
-    assert_eq!(found, [8, 9, 10, 13, 14, 20, 23, 25]);
-}
-
 /// The number and the comment of a line `NAME = NUMBER, /* words */`.
 fn numbered(line: &str) -> Option<(u32, &str)> {
     let (_, rest) = line.split_once(" = ")?;
@@ -78,13 +61,6 @@ fn the_version_is_that_of_the_library_and_of_the_newest_changes() {
     assert_eq!(repository_file("VERSION").trim_end(), version);
     let (minor, _) = version.rsplit_once('.').unwrap();
     let header = repository_file(HEADER);
-    let parts: Vec<u32> = version
-        .split('.')
-        .map(|part| part.parse().unwrap())
-        .collect();
-    let number = 10_000 * parts[0] + 100 * parts[1] + parts[2];
-    assert!(header.contains(&format!("\n#define GORDZILA_VERSION \"{version}\"\n")));
-    assert!(header.contains(&format!("\n#define GORDZILA_VERSION_NUMBER {number}\n")));
     let (_, newest) = header.split_once("\n * Changes in ").unwrap();
     assert!(
         newest.starts_with(&format!("{minor}.0, for hosts")),

@@ -2,63 +2,56 @@
 //! when it changes.
 
 use crate::header::in_one_line;
-use crate::{block, contractor, key, repository_file, SEVEN};
-use gordzila::{check, check_queue, issue, raw, Contractor, Grant, Key, Reason, Right, Roll};
+use crate::{block, repository_file};
+use gordzila::{check, check_queue, issue, raw, Reason, Right, Roll};
 use Right::{Overwriting, Reading};
 
 const KEY: [u8; 24] = [5; 24];
 const ROUNDS: u32 = 18;
 
-/// These two as a key.
-fn the_key() -> Key<'static> {
-    key(&KEY, ROUNDS)
-}
-
 /// The number that a check of a grant for size block 300 answers.
-fn checked(roll: &Roll, grant: &Grant, asked: Right) -> u32 {
-    let (roll, grant) = (roll.bytes(), grant.bytes());
-    raw::check_number(&KEY, ROUNDS, roll, grant, 300, asked.number())
+fn checked(roll: &Roll, grant: &[u8], asked: Right) -> u32 {
+    raw::check_number(&KEY, ROUNDS, roll.bytes(), grant, 300, asked.number())
 }
 
 /// The verdict on a grant in a queue of one.
-fn queued(roll: &Roll, grant: Grant, asked: Right) -> Result<(), Reason> {
-    check_queue(the_key(), roll, &[grant], block(300), asked).unwrap()[0]
+fn queued(roll: &Roll, grant: [u8; 12], asked: Right) -> Result<(), Reason> {
+    check_queue(&KEY, ROUNDS, roll, &[grant], block(300), asked).unwrap()[0]
 }
 
-fn issued(roll: &Roll, contractor: Contractor, right: Right) -> Result<Grant, Reason> {
-    issue(the_key(), roll, contractor, block(300), right)
+fn issued(roll: &Roll, contractor: u32, right: Right) -> Result<[u8; 12], Reason> {
+    issue(&KEY, ROUNDS, roll, contractor, block(300), right)
 }
 
 /// A roll on which a contractor is in standing, with any byte as their highest right. Those
 /// of all others mean the other thing.
-fn roll(contractor: Contractor, highest: u8) -> Roll {
-    let (mut bytes, number) = ([0; 600], contractor.number() as usize);
+fn roll(contractor: u32, highest: u8) -> Roll {
+    let mut bytes = [0; 600];
     bytes[400..].fill(if highest == 2 { 1 } else { 2 });
-    bytes[2 * number - 1] = 1;
-    bytes[399 + number] = highest;
+    bytes[2 * contractor as usize - 1] = 1;
+    bytes[399 + contractor as usize] = highest;
     Roll::from_bytes(&bytes).unwrap()
 }
 
 #[test]
 fn only_2_as_the_highest_right_overwrites() {
-    for contractor in [1, 7, 200].map(contractor) {
-        let number = contractor.number();
+    for contractor in [1, 7, 200] {
         let high = roll(contractor, 2);
         let grant = issued(&high, contractor, Overwriting).unwrap();
         let reading = issued(&high, contractor, Reading).unwrap();
         for highest in 0..=u8::MAX {
             let roll = roll(contractor, highest);
             let (answer, verdict, issue) = match highest {
-                2 => (2000 + number, Ok(()), Ok(grant)),
+                2 => (2000 + contractor, Ok(()), Ok(grant)),
                 _ => (25, Err(Reason::AboveHighest), Err(Reason::AboveHighest)),
             };
             assert_eq!(checked(&roll, &grant, Overwriting), answer, "{highest}");
             assert_eq!(queued(&roll, grant, Overwriting), verdict, "{highest}");
             assert_eq!(issued(&roll, contractor, Overwriting), issue, "{highest}");
             // Reading is in no highest right's way, nor are reading grants.
-            assert_eq!(checked(&roll, &grant, Reading), 1000 + number);
+            assert_eq!(checked(&roll, &grant, Reading), 1000 + contractor);
             assert_eq!(queued(&roll, grant, Reading), Ok(()));
-            assert_eq!(checked(&roll, &reading, Reading), 1000 + number);
+            assert_eq!(checked(&roll, &reading, Reading), 1000 + contractor);
             assert_eq!(checked(&roll, &reading, Overwriting), 10);
             assert_eq!(issued(&roll, contractor, Reading), Ok(reading));
         }
@@ -69,9 +62,9 @@ fn only_2_as_the_highest_right_overwrites() {
 /// the highest right.
 #[test]
 fn twenty_five_comes_last() {
-    let grant = issued(&roll(SEVEN, 2), SEVEN, Overwriting).unwrap();
+    let grant = issued(&roll(7, 2), 7, Overwriting).unwrap();
     for highest in [0, 1, 2, 3, 255] {
-        let mut bytes = *roll(SEVEN, highest).bytes();
+        let mut bytes = *roll(7, highest).bytes();
         for (count, expected) in [(2, 20), (3, 23)] {
             bytes[13] = count;
             let roll = Roll::from_bytes(&bytes).unwrap();
@@ -81,7 +74,7 @@ fn twenty_five_comes_last() {
         }
         bytes[13] = 2;
         let roll = Roll::from_bytes(&bytes).unwrap();
-        let refused = issued(&roll, SEVEN, Overwriting);
+        let refused = issued(&roll, 7, Overwriting);
         assert_eq!(refused, Err(Reason::NotInStanding), "{highest}");
     }
 }
@@ -89,31 +82,31 @@ fn twenty_five_comes_last() {
 #[test]
 fn a_demotion_ends_no_grant() {
     let mut roll = Roll::empty();
-    roll.enter(SEVEN, Overwriting).unwrap();
-    let grant = issued(&roll, SEVEN, Overwriting).unwrap();
+    roll.enter(7, Overwriting).unwrap();
+    let grant = issued(&roll, 7, Overwriting).unwrap();
     for _ in 0..3 {
-        roll.change_right(SEVEN, Reading).unwrap();
+        roll.change_right(7, Reading).unwrap();
         assert_eq!(checked(&roll, &grant, Overwriting), 25);
         assert_eq!(checked(&roll, &grant, Reading), 1007);
-        roll.change_right(SEVEN, Overwriting).unwrap();
+        roll.change_right(7, Overwriting).unwrap();
         assert_eq!(checked(&roll, &grant, Overwriting), 2007);
     }
-    assert_eq!(issued(&roll, SEVEN, Overwriting), Ok(grant));
-    assert_eq!(roll.count(SEVEN), 1);
+    assert_eq!(issued(&roll, 7, Overwriting), Ok(grant));
+    assert_eq!(roll.count(7), Some(1));
 }
 
 /// To end the grants of someone demoted, they are withdrawn and entered again.
 #[test]
 fn a_withdrawal_ends_the_grants_of_someone_demoted() {
     let mut roll = Roll::empty();
-    roll.enter(SEVEN, Overwriting).unwrap();
-    let grant = issued(&roll, SEVEN, Overwriting).unwrap();
-    roll.change_right(SEVEN, Reading).unwrap();
-    roll.withdraw(SEVEN).unwrap();
-    roll.enter(SEVEN, Overwriting).unwrap();
+    roll.enter(7, Overwriting).unwrap();
+    let grant = issued(&roll, 7, Overwriting).unwrap();
+    roll.change_right(7, Reading).unwrap();
+    roll.withdraw(7).unwrap();
+    roll.enter(7, Overwriting).unwrap();
     for right in [Reading, Overwriting] {
         assert_eq!(checked(&roll, &grant, right), 23);
-        roll.change_right(SEVEN, right).unwrap();
+        roll.change_right(7, right).unwrap();
         assert_eq!(checked(&roll, &grant, right), 23);
     }
 }
@@ -122,15 +115,15 @@ fn a_withdrawal_ends_the_grants_of_someone_demoted() {
 fn entering_again_asks_for_the_right_again() {
     let mut roll = Roll::empty();
     for right in [Overwriting, Reading, Overwriting] {
-        roll.enter(SEVEN, right).unwrap();
-        assert_eq!(roll.highest_right(SEVEN), right);
+        roll.enter(7, right).unwrap();
+        assert_eq!(roll.highest_right(7), Some(right));
         let expected = match right {
             Overwriting => Ok(()),
             Reading => Err(Reason::AboveHighest),
         };
-        assert_eq!(issued(&roll, SEVEN, Overwriting).map(|_| ()), expected);
-        roll.withdraw(SEVEN).unwrap();
-        assert_eq!(roll.highest_right(SEVEN), Reading);
+        assert_eq!(issued(&roll, 7, Overwriting).map(|_| ()), expected);
+        roll.withdraw(7).unwrap();
+        assert_eq!(roll.highest_right(7), Some(Reading));
     }
 }
 
@@ -138,7 +131,7 @@ fn entering_again_asks_for_the_right_again() {
 /// overwrite on, and only for reading on one that nobody may.
 #[test]
 fn an_old_roll_opens_what_it_opened_or_less() {
-    let grant = issued(&roll(SEVEN, 2), SEVEN, Overwriting).unwrap();
+    let grant = issued(&roll(7, 2), 7, Overwriting).unwrap();
     let mut old = [0; 400];
     old[13] = 1;
     for (right, expected) in [(Overwriting, 2007), (Reading, 25)] {
@@ -146,7 +139,7 @@ fn an_old_roll_opens_what_it_opened_or_less() {
         assert_eq!(checked(&roll, &grant, Reading), 1007);
         assert_eq!(checked(&roll, &grant, Overwriting), expected);
     }
-    let read = check(the_key(), &Roll::empty(), &grant, block(300), Reading);
+    let read = check(&KEY, ROUNDS, &Roll::empty(), &grant, block(300), Reading);
     assert_eq!(read, Err(Reason::NotInStanding));
 }
 

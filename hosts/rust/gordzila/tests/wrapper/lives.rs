@@ -1,8 +1,7 @@
 //! The roll and the grants, against the stored output of the independent program.
 
-use crate::{block, bytes_of, contractor, digits_of, grant_of, key, number_of, repository_file};
-use gordzila::{check, check_queue, issue, raw};
-use gordzila::{Contractor, Grant, Key, Opened, Reason, Right, Roll, SizeBlock};
+use crate::{block, block_of, bytes_of, digits_of, number_of, repository_file};
+use gordzila::{check, check_queue, issue, raw, Opened, Reason, Right, Roll, SizeBlock};
 use Right::{Overwriting, Reading};
 
 /// How many lines a life has.
@@ -85,7 +84,7 @@ check 2 10 0 0
 struct Life {
     key: Vec<u8>,
     rounds: u32,
-    contractor: Contractor,
+    contractor: u32,
     block: SizeBlock,
     right: Right,
     roll: Roll,
@@ -135,7 +134,7 @@ fn a_queue_says_what_the_independent_program_says_one_by_one() {
         }
         let (a, b) = (grant_in(&lines[4]), grant_in(&lines[29]));
         let mut pile = vec![b, a];
-        pile.extend((0..b.bytes().len()).map(|at| damaged(b, at)));
+        pile.extend((0..b.len()).map(|at| damaged(b, at)));
         let one_by_one = lines[30..32].iter().chain(&lines[33..]);
         let expected: Vec<u32> = one_by_one.map(|line| refusal_in(line)).collect();
         assert_eq!(life.queued(&pile, life.right), expected, "{}", lines[0]);
@@ -176,10 +175,9 @@ fn refusal_in(line: &str) -> u32 {
 }
 
 /// A grant with one byte changed.
-fn damaged(grant: Grant, at: usize) -> Grant {
-    let mut bytes = *grant.bytes();
-    bytes[at] ^= 1;
-    Grant::from(bytes)
+fn damaged(mut grant: [u8; 12], at: usize) -> [u8; 12] {
+    grant[at] ^= 1;
+    grant
 }
 
 impl Life {
@@ -188,7 +186,7 @@ impl Life {
         Life {
             key: bytes_of(fields[1]),
             rounds: number_of(fields[2]),
-            contractor: contractor(number_of(fields[3])),
+            contractor: number_of(fields[3]),
             block: block(number_of(fields[4])),
             right: Right::from_number(number_of(fields[5])).unwrap(),
             roll: Roll::empty(),
@@ -218,7 +216,7 @@ impl Life {
         let b = grant_in(&lines[28]);
         lines.extend([self.check(&b, right), self.check(&a, right)]);
         lines.push(self.check(&b, Overwriting));
-        for at in 0..b.bytes().len() {
+        for at in 0..b.len() {
             let line = self.check(&damaged(b, at), right);
             lines.push(line.replacen(
                 &format!("check {}", right.number()),
@@ -241,7 +239,7 @@ impl Life {
             Some(right) => number(self.roll.change_right(self.contractor, right)),
             None => {
                 let mut bytes = *self.roll.bytes();
-                raw::change_right_number(&mut bytes, self.contractor.number(), highest)
+                raw::change_right_number(&mut bytes, self.contractor, highest)
             }
         };
         format!("right {highest} {changed}")
@@ -251,32 +249,27 @@ impl Life {
         format!("withdraw {}", number(self.roll.withdraw(self.contractor)))
     }
 
-    /// The life's key with its rounds.
-    fn key(&self) -> Key<'_> {
-        key(&self.key, self.rounds)
-    }
-
     fn issue(&self, right: Right) -> String {
-        let asked = right.number();
-        match issue(self.key(), &self.roll, self.contractor, self.block, right) {
-            Ok(grant) => format!("issue {asked} 0 {}", digits_of(grant.bytes())),
+        let (contractor, block, asked) = (self.contractor, self.block, right.number());
+        match issue(&self.key, self.rounds, &self.roll, contractor, block, right) {
+            Ok(grant) => format!("issue {asked} 0 {}", digits_of(&grant)),
             Err(reason) => format!("issue {asked} {}", reason.number()),
         }
     }
 
     /// The verdicts of a queue, as numbers.
-    fn queued(&self, pile: &[Grant], right: Right) -> Vec<u32> {
-        let verdicts = check_queue(self.key(), &self.roll, pile, self.block, right);
+    fn queued(&self, pile: &[[u8; 12]], right: Right) -> Vec<u32> {
+        let verdicts = check_queue(&self.key, self.rounds, &self.roll, pile, self.block, right);
         verdicts.unwrap().into_iter().map(number).collect()
     }
 
-    fn check(&self, grant: &Grant, right: Right) -> String {
+    fn check(&self, grant: &[u8], right: Right) -> String {
         self.check_for(grant, self.block, right)
     }
 
-    fn check_for(&self, grant: &Grant, block: SizeBlock, right: Right) -> String {
+    fn check_for(&self, grant: &[u8], block: SizeBlock, right: Right) -> String {
         let asked = right.number();
-        match check(self.key(), &self.roll, grant, block, right) {
+        match check(&self.key, self.rounds, &self.roll, grant, block, right) {
             Ok(Opened { contractor, right }) => {
                 format!("check {asked} 0 {contractor} {}", right.number())
             }
@@ -297,6 +290,6 @@ fn other(right: Right) -> Right {
 }
 
 /// The grant in a line `issue ASKED 0 GRANT`.
-fn grant_in(line: &str) -> Grant {
-    grant_of(line.rsplit_once(" 0 ").unwrap().1)
+fn grant_in(line: &str) -> [u8; 12] {
+    block_of(line.rsplit_once(" 0 ").unwrap().1)
 }

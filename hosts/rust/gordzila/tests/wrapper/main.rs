@@ -13,12 +13,10 @@ mod readers;
 mod refusals;
 mod rights;
 mod routes;
-mod types;
 mod vectors;
-mod wiping;
 mod zero;
 
-use gordzila::{Contractor, Grant, Key, PageKeys, SizeBlock};
+use gordzila::SizeBlock;
 use std::fs;
 use std::path::Path;
 
@@ -52,32 +50,6 @@ fn block_of(digits: &str) -> [u8; 12] {
 fn number_of(digits: &str) -> u32 {
     digits.parse().unwrap()
 }
-
-/// The grant of hexadecimal digits.
-fn grant_of(digits: &str) -> Grant {
-    block_of(digits).into()
-}
-
-/// A key that the library takes with its round count.
-fn key(bytes: &[u8], rounds: u32) -> Key<'_> {
-    Key::new(bytes, rounds).unwrap()
-}
-
-/// Two keys that the library takes for pages, with their round count.
-fn page_keys<'a>(first: &'a [u8], second: &'a [u8], rounds: u32) -> PageKeys<'a> {
-    PageKeys::new(first, second, rounds).unwrap()
-}
-
-/// The contractor with a number from 1 to 200.
-const fn contractor(number: u32) -> Contractor {
-    match Contractor::new(number) {
-        Some(contractor) => contractor,
-        None => panic!("no contractor has this number"),
-    }
-}
-
-/// Contractor 7, who is in most tests.
-const SEVEN: Contractor = contractor(7);
 
 /// The size block with a number that is not 0.
 const fn block(number: u32) -> SizeBlock {

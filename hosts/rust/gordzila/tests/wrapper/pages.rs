@@ -1,8 +1,8 @@
 //! Sealed pages: what a page has, what it opens to, when a call refuses, and what it leaves
 //! in the scratch and in the output.
 
-use crate::{block, bytes_of, key, page_keys};
-use gordzila::{encipher, open_page, raw, seal_page, Key, PageKeys, PageNumber, Reason};
+use crate::{block, bytes_of};
+use gordzila::{encipher, open_page, raw, seal_page, OpenedPage, PageKeys, Reason};
 
 const FIRST: [u8; 24] = [3; 24];
 const SECOND: [u8; 24] = [7; 24];
@@ -10,20 +10,12 @@ const SECOND: [u8; 24] = [7; 24];
 /// The key lengths, each with its round counts.
 const SIZES: [(usize, u32, u32); 3] = [(12, 10, 11), (18, 14, 17), (24, 18, 23)];
 
-/// The page number of most pages.
-const FOUR: PageNumber = PageNumber(4);
-
-/// Two keys of a length, whether it is that of a key or not.
-fn pair(length: usize) -> raw::KeyPair<'static> {
-    raw::KeyPair {
+/// Two keys of a length.
+fn keys(length: usize) -> PageKeys<'static> {
+    PageKeys {
         first: &FIRST[..length],
         second: &SECOND[..length],
     }
-}
-
-/// Two keys of a length with a round count.
-fn keys(length: usize, rounds: u32) -> PageKeys<'static> {
-    page_keys(&FIRST[..length], &SECOND[..length], rounds)
 }
 
 /// The 12 plain bytes of a page.
@@ -39,32 +31,33 @@ pub fn header(block: u32, number: u16, used: u16) -> [u8; 12] {
 
 /// One step of the chaining: a block is added to what the one before became, and the sum
 /// enciphered.
-fn chained(key: Key<'_>, previous: [u8; 12], block: &[u8]) -> [u8; 12] {
+fn chained(key: &[u8], rounds: u32, previous: [u8; 12], block: &[u8]) -> [u8; 12] {
     let mut sum = previous;
     sum.iter_mut().zip(block).for_each(|(to, by)| *to ^= by);
-    encipher(key, &sum)
+    encipher(key, rounds, &sum).unwrap()
 }
 
 /// The check of what is stored.
-fn check(key: Key<'_>, stored: &[u8]) -> [u8; 8] {
+fn check(key: &[u8], rounds: u32, stored: &[u8]) -> [u8; 8] {
     let blocks = stored[..504].chunks(12);
-    let last = blocks.fold([0; 12], |previous, block| chained(key, previous, block));
+    let last = blocks.fold([0; 12], |previous, block| {
+        chained(key, rounds, previous, block)
+    });
     last[..8].try_into().unwrap()
 }
 
 /// The page with any 12 plain bytes and any payload, zeros after it, by the header's words
 /// over the cipher.
-pub fn page_of(keys: PageKeys<'_>, header: [u8; 12], payload: &[u8]) -> [u8; 512] {
-    let [first, second] = [keys.first(), keys.second()].map(|bytes| key(bytes, keys.rounds()));
+pub fn page_of(keys: PageKeys<'_>, rounds: u32, header: [u8; 12], payload: &[u8]) -> [u8; 512] {
     let (mut page, mut plain) = ([0; 512], [0; 492]);
     page[..12].copy_from_slice(&header);
     plain[..payload.len()].copy_from_slice(payload);
-    let mut previous = encipher(first, &header);
+    let mut previous = encipher(keys.first, rounds, &header).unwrap();
     for (to, block) in page[12..504].chunks_mut(12).zip(plain.chunks(12)) {
-        previous = chained(first, previous, block);
+        previous = chained(keys.first, rounds, previous, block);
         to.copy_from_slice(&previous);
     }
-    let check = check(second, &page);
+    let check = check(keys.second, rounds, &page);
     page[504..].copy_from_slice(&check);
     page
 }
@@ -95,12 +88,12 @@ const PRINTED: &str = "\
 fn a_page_of_the_independent_program_opens_and_is_sealed_again() {
     let first = &bytes_of("c67e816b4bfbe2fb54f6bddf");
     let second = &bytes_of("7c1ce18701bf31de56720f47");
-    let (keys, page) = (page_keys(first, second, 10), bytes_of(PRINTED));
-    let opened = open_page(keys, &page).unwrap();
+    let (keys, page) = (PageKeys { first, second }, bytes_of(PRINTED));
+    let opened = open_page(keys, 10, &page).unwrap();
     let (size_block, number) = (opened.size_block, opened.page_number);
-    assert_eq!((size_block, number), (1_734_772_569, PageNumber(43_656)));
-    assert_eq!(opened.payload().len(), 166);
-    let again = seal_page(keys, block(size_block), number, opened.payload()).unwrap();
+    assert_eq!((size_block, number), (1_734_772_569, 43_656));
+    assert_eq!(opened.payload.len(), 166);
+    let again = seal_page(keys, 10, block(size_block), number, &opened.payload).unwrap();
     assert_eq!(again[..], page);
 }
 
@@ -109,15 +102,18 @@ fn a_page_is_what_the_rule_says_and_opens_to_what_was_sealed() {
     for (length, least, most) in SIZES {
         for rounds in least..=most {
             for used in [0, 1, 11, 12, 13, 300, 480, 481, 491, 492] {
-                let (keys, payload) = (keys(length, rounds), bytes(used));
-                let (size_block, page_number) = (0xfedc_ba98, PageNumber(0x7654));
-                let page = seal_page(keys, block(size_block), page_number, &payload).unwrap();
-                let header = header(size_block, page_number.0, used as u16);
-                assert_eq!(page, page_of(keys, header, &payload));
-                let opened = open_page(keys, &page).unwrap();
-                assert_eq!(opened.size_block, size_block);
-                assert_eq!(opened.page_number, page_number);
-                assert_eq!(opened.payload(), payload);
+                let (keys, payload) = (keys(length), bytes(used));
+                let (size_block, page_number) = (0xfedc_ba98, 0x7654);
+                let page = seal_page(keys, rounds, block(size_block), page_number, &payload);
+                let page = page.unwrap();
+                let header = header(size_block, page_number, used as u16);
+                assert_eq!(page, page_of(keys, rounds, header, &payload));
+                let opened = OpenedPage {
+                    size_block,
+                    page_number,
+                    payload,
+                };
+                assert_eq!(open_page(keys, rounds, &page), Ok(opened));
             }
         }
     }
@@ -127,7 +123,7 @@ fn a_page_is_what_the_rule_says_and_opens_to_what_was_sealed() {
 #[test]
 fn a_page_with_a_byte_changed_never_opens() {
     for (length, rounds, _) in SIZES {
-        let page = seal_page(keys(length, rounds), block(300), FOUR, &bytes(300)).unwrap();
+        let page = seal_page(keys(length), rounds, block(300), 4, &bytes(300)).unwrap();
         for at in 0..page.len() {
             for change in [1 << (at % 8), 255] {
                 let mut changed = page;
@@ -137,7 +133,7 @@ fn a_page_with_a_byte_changed_never_opens() {
                     true => Reason::NotAPage,
                     false => Reason::CheckDiffers,
                 };
-                let refused = open_page(keys(length, rounds), &changed);
+                let refused = open_page(keys(length), rounds, &changed);
                 assert_eq!(refused, Err(expected), "{at}");
             }
         }
@@ -146,7 +142,7 @@ fn a_page_with_a_byte_changed_never_opens() {
 
 #[test]
 fn a_count_that_was_changed_is_refused() {
-    let mut page = seal_page(keys(12, 10), block(300), FOUR, &bytes(300)).unwrap();
+    let mut page = seal_page(keys(12), 10, block(300), 4, &bytes(300)).unwrap();
     for used in (0..=1000_u16).chain([32_768, 65_535]) {
         page[6..8].copy_from_slice(&used.to_be_bytes());
         let expected = match used {
@@ -154,57 +150,56 @@ fn a_count_that_was_changed_is_refused() {
             0..=492 => Some(Reason::CheckDiffers),
             _ => Some(Reason::NotAPage),
         };
-        assert_eq!(open_page(keys(12, 10), &page).err(), expected, "{used}");
+        assert_eq!(open_page(keys(12), 10, &page).err(), expected, "{used}");
     }
 }
 
 /// Which page is wanted, only who opens it knows.
 #[test]
 fn a_page_is_not_bound_to_its_place_or_time() {
-    let keys = keys(18, 14);
-    let older = seal_page(keys, block(300), FOUR, b"older").unwrap();
-    let newer = seal_page(keys, block(300), FOUR, b"newer").unwrap();
-    let other = seal_page(keys, block(301), FOUR, b"other").unwrap();
+    let older = seal_page(keys(18), 14, block(300), 4, b"older").unwrap();
+    let newer = seal_page(keys(18), 14, block(300), 4, b"newer").unwrap();
+    let other = seal_page(keys(18), 14, block(301), 4, b"other").unwrap();
     for (page, block, payload) in [(older, 300, b"older"), (newer, 300, b"newer")] {
-        let opened = open_page(keys, &page).unwrap();
-        assert_eq!((opened.size_block, opened.page_number), (block, FOUR));
-        assert_eq!(opened.payload(), payload);
+        let opened = open_page(keys(18), 14, &page).unwrap();
+        assert_eq!((opened.size_block, opened.page_number), (block, 4));
+        assert_eq!(opened.payload, payload);
     }
-    assert_eq!(open_page(keys, &other).unwrap().size_block, 301);
-    let again = seal_page(keys, block(300), FOUR, b"older");
+    assert_eq!(open_page(keys(18), 14, &other).unwrap().size_block, 301);
+    let again = seal_page(keys(18), 14, block(300), 4, b"older");
     assert_eq!(again, Ok(older));
 }
 
 #[test]
 fn other_keys_and_rounds_do_not_open_a_page() {
+    let under = |first, second| PageKeys { first, second };
     let (a, b, c) = (&[1; 12], &[2; 12], &[3; 12]);
     for used in [0, 300, 480] {
-        let page = seal_page(page_keys(a, b, 10), block(300), FOUR, &bytes(used)).unwrap();
-        for (keys, expected) in [
-            (page_keys(b, a, 10), Reason::CheckDiffers),
-            (page_keys(a, c, 10), Reason::CheckDiffers),
-            (page_keys(a, b, 11), Reason::CheckDiffers),
+        let page = seal_page(under(a, b), 10, block(300), 4, &bytes(used)).unwrap();
+        for (keys, rounds, expected) in [
+            (under(b, a), 10, Reason::CheckDiffers),
+            (under(a, c), 10, Reason::CheckDiffers),
+            (under(a, b), 11, Reason::CheckDiffers),
             // The check is that of the second key; what the first gives is not zero.
-            (page_keys(c, b, 10), Reason::NotAPage),
+            (under(c, b), 10, Reason::NotAPage),
         ] {
-            assert_eq!(open_page(keys, &page), Err(expected), "{used}");
+            assert_eq!(open_page(keys, rounds, &page), Err(expected), "{used}");
         }
     }
     // Where no byte is unused, nothing tells that the first key is another.
-    let page = seal_page(page_keys(a, b, 10), block(300), FOUR, &bytes(492)).unwrap();
-    let opened = open_page(page_keys(c, b, 10), &page).unwrap();
-    assert_eq!((opened.size_block, opened.page_number), (300, FOUR));
-    assert_ne!(opened.payload(), bytes(492));
+    let page = seal_page(under(a, b), 10, block(300), 4, &bytes(492)).unwrap();
+    let opened = open_page(under(c, b), 10, &page).unwrap();
+    assert_eq!((opened.size_block, opened.page_number), (300, 4));
+    assert_ne!(opened.payload, bytes(492));
 }
 
-/// Whether two keys are taken, which both calls and the type have to agree on.
+/// Whether two keys are taken, which both calls have to agree on.
 fn taken(first: &[u8], second: &[u8], rounds: u32) -> Result<(), Reason> {
-    let (pair, mut page, scratch) = (raw::KeyPair { first, second }, [0; 512], &mut [0; 576]);
-    let sealed = raw::seal_page(pair, rounds, 300, 4, b"front panel", scratch, &mut page);
-    let opened = raw::open_page(pair, rounds, &page, scratch, &mut [0; 492]);
-    assert_eq!(sealed, opened.map(|_| ()));
-    assert_eq!(sealed, PageKeys::new(first, second, rounds).map(|_| ()));
-    sealed
+    let keys = PageKeys { first, second };
+    let page = seal_page(keys, rounds, block(300), 4, b"front panel");
+    let opened = open_page(keys, rounds, &page.unwrap_or([0; 512]));
+    assert_eq!(page.err(), opened.err());
+    page.map(|_| ())
 }
 
 #[test]
@@ -295,10 +290,10 @@ fn sealing_refuses_with_1_2_4_14_12() {
         let length = first.len() - or(1, 0, 1);
         let second = &second[or(2, 1, 0)][..length];
         let (first, rounds) = (&first[..], or(3, 14, 18) as u32);
-        let (pair, block) = (raw::KeyPair { first, second }, or(6, 300, 0) as u32);
+        let (keys, block) = (PageKeys { first, second }, or(6, 300, 0) as u32);
         let payload = bytes(or(7, 492, 493));
         let given = left(or(4, 576, 575), or(5, 512, 511), 512, |scratch, out| {
-            raw::seal_page_number(pair, rounds, block, 4, &payload, scratch, out).into()
+            raw::seal_page_number(keys, rounds, block, 4, &payload, scratch, out).into()
         });
         let refused = first_of(faults, &SEALING);
         let expected = Left {
@@ -327,7 +322,7 @@ fn faulty(keys: PageKeys<'_>, block: u32, faults: u32) -> Vec<u8> {
         payload.resize(491, 0);
         payload.push(1);
     }
-    let mut page = page_of(keys, header, &payload).to_vec();
+    let mut page = page_of(keys, 14, header, &payload).to_vec();
     page[511] ^= u8::from(has(7));
     page.truncate(if has(4) { 511 } else { 512 });
     page
@@ -342,10 +337,10 @@ fn opening_refuses_with_1_2_4_11_13_11() {
             1 => wrong,
             _ => right,
         };
-        let page = faulty(keys(18, 14), block, faults);
-        let (pair, rounds) = (pair(or(0, 18, 17)), or(1, 14, 18) as u32);
+        let page = faulty(keys(18), block, faults);
+        let (keys, rounds) = (keys(or(0, 18, 17)), or(1, 14, 18) as u32);
         let given = left(or(2, 576, 575), or(3, 492, 491), 492, |scratch, out| {
-            raw::open_page_number(pair, rounds, &page, scratch, out)
+            raw::open_page_number(keys, rounds, &page, scratch, out)
         });
         let refused = first_of(faults, &OPENING);
         let expected = Left {
@@ -360,7 +355,7 @@ fn opening_refuses_with_1_2_4_11_13_11() {
 
 #[test]
 fn what_is_longer_than_it_has_to_be_keeps_the_rest() {
-    let page = seal_page(keys(24, 23), block(300), FOUR, &bytes(492)).unwrap();
+    let page = seal_page(keys(24), 23, block(300), 4, &bytes(492)).unwrap();
     let done = |number| Left {
         number,
         cleared: true,
@@ -368,11 +363,11 @@ fn what_is_longer_than_it_has_to_be_keeps_the_rest() {
     };
     for more in [0, 1, 64, 600] {
         let sealed = left(576 + more, 512 + more, 512, |scratch, out| {
-            raw::seal_page_number(pair(24), 23, 300, 4, &bytes(492), scratch, out).into()
+            raw::seal_page_number(keys(24), 23, 300, 4, &bytes(492), scratch, out).into()
         });
         assert_eq!(sealed, done(0));
         let opened = left(576 + more, 492 + more, 492, |scratch, out| {
-            raw::open_page_number(pair(24), 23, &page, scratch, out)
+            raw::open_page_number(keys(24), 23, &page, scratch, out)
         });
         assert_eq!(opened, done(0x81ec_0004_0000_012c));
     }
@@ -391,18 +386,18 @@ fn the_lengths_have_these_limits() {
         assert_eq!(raw_seal(scratch, out, 492), 4, "{scratch}, {out}");
     }
     assert_eq!((raw_seal(577, 512, 0), raw_seal(576, 513, 0)), (0, 0));
-    let page = seal_page(keys(12, 11), block(300), FOUR, b"").unwrap();
+    let page = seal_page(keys(12), 11, block(300), 4, b"").unwrap();
     let page = [page, [0; 512]].concat();
-    let opened = |length: usize| open_page(keys(12, 11), &page[..length]);
+    let opened = |length: usize| open_page(keys(12), 11, &page[..length]);
     for wrong in [0, 1, 12, 492, 504, 511, 513, 768, 1024] {
         assert_eq!(opened(wrong), Err(Reason::NotAPage), "{wrong}");
     }
-    assert!(opened(512).unwrap().payload().is_empty());
+    assert_eq!(opened(512).map(|opened| opened.payload), Ok(vec![]));
 }
 
 /// The number that a sealing answers with these lengths.
 fn raw_seal(scratch: usize, out: usize, payload: usize) -> u32 {
     let (mut scratch, mut out) = (vec![1; scratch], vec![1; out]);
     let payload = vec![1; payload];
-    raw::seal_page_number(pair(12), 11, 300, 4, &payload, &mut scratch, &mut out)
+    raw::seal_page_number(keys(12), 11, 300, 4, &payload, &mut scratch, &mut out)
 }

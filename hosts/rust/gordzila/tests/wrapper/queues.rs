@@ -1,19 +1,13 @@
 //! The queue: which verdict each grant gets, and when the whole call is refused.
 
+use crate::block;
 use crate::refusals::numbered;
-use crate::{block, contractor, key, SEVEN};
-use gordzila::{check, check_queue, encipher, issue, raw};
-use gordzila::{Grant, Key, Reason, Right, Roll, QUEUE_MOST_GRANTS};
+use gordzila::{check, check_queue, encipher, issue, raw, Reason, Right, Roll, QUEUE_MOST_GRANTS};
 use std::collections::BTreeSet;
 use Right::{Overwriting, Reading};
 
 const KEY: [u8; 18] = [3; 18];
 const ROUNDS: u32 = 14;
-
-/// These two as a key.
-fn the_key() -> Key<'static> {
-    key(&KEY, ROUNDS)
-}
 
 /// A roll on which contractor 7 is in standing with count 1 and may overwrite, contractor 8
 /// was withdrawn, with count 2, and contractor 9 is in standing with count 1 and may only
@@ -27,11 +21,11 @@ fn roll() -> Roll {
 
 /// A grant with any contractor, count, size block and right, which are bytes; to the
 /// number of the size block 256 is added.
-fn grant([contractor, count, block, right]: [u8; 4]) -> Grant {
+fn grant([contractor, count, block, right]: [u8; 4]) -> [u8; 12] {
     let plain = [
         0, contractor, 0, count, 0, 0, 1, block, right, 0x47, 0x52, 0x44,
     ];
-    encipher(the_key(), &plain).into()
+    encipher(&KEY, ROUNDS, &plain).unwrap()
 }
 
 /// Whom the pile's grants name, and at which count: 3 contractors with 2 counts each, and the
@@ -49,7 +43,7 @@ const NAMED: [(u8, u8); 8] = [
 
 /// A grant for each of these, the size blocks 300 and 301, and 4 rights, two of which there
 /// are not.
-fn pile() -> Vec<Grant> {
+fn pile() -> Vec<[u8; 12]> {
     let mut pile = Vec::new();
     for (contractor, count) in NAMED {
         for block in [44, 45] {
@@ -68,7 +62,7 @@ fn each_grant_gets_the_verdict_of_the_rules() {
         grant([7, 1, 45, 2]),
         grant([7, 3, 44, 2]),
         grant([8, 1, 44, 2]),
-        Grant::from([0; 12]),
+        [0; 12],
         grant([9, 1, 44, 2]),
         grant([9, 3, 44, 2]),
         grant([0, 1, 44, 2]),
@@ -96,8 +90,8 @@ fn each_grant_gets_the_verdict_of_the_rules() {
             Err(Reason::NotAGrant),
             Ok(()),
         ];
-        let verdicts = check_queue(the_key(), &roll(), &pile, block(300), right).unwrap();
-        assert_eq!(*verdicts, expected, "{right}");
+        let verdicts = check_queue(&KEY, ROUNDS, &roll(), &pile, block(300), right).unwrap();
+        assert_eq!(verdicts, expected, "{right}");
     }
 }
 
@@ -106,25 +100,20 @@ fn each_verdict_is_that_of_the_single_check() {
     let (roll, pile) = (roll(), pile());
     for right in [Reading, Overwriting] {
         for block in [300, 301, 302].map(block) {
-            let verdicts = check_queue(the_key(), &roll, &pile, block, right).unwrap();
-            let single = |grant| check(the_key(), &roll, grant, block, right).map(|_| ());
-            let singles: Vec<_> = pile.iter().map(single).collect();
-            assert_eq!(*verdicts, singles, "{right}, {block}");
+            let verdicts = check_queue(&KEY, ROUNDS, &roll, &pile, block, right).unwrap();
+            let single = |grant| check(&KEY, ROUNDS, &roll, grant, block, right).map(|_| ());
+            let singles: Vec<_> = pile.iter().map(|grant| single(grant)).collect();
+            assert_eq!(verdicts, singles, "{right}, {block}");
         }
     }
 }
 
 /// The byte for a grant, by what a single check of it answers.
-fn byte_of(grant: &Grant, block: u32, right: u32) -> u8 {
-    match raw::check_number(&KEY, ROUNDS, roll().bytes(), grant.bytes(), block, right) {
+fn byte_of(grant: &[u8], block: u32, right: u32) -> u8 {
+    match raw::check_number(&KEY, ROUNDS, roll().bytes(), grant, block, right) {
         1000.. => 0,
         refusal => refusal.try_into().unwrap(),
     }
-}
-
-/// The bytes of grants, one after the other.
-fn bytes_in(pile: &[Grant]) -> Vec<u8> {
-    pile.iter().flat_map(|grant| *grant.bytes()).collect()
 }
 
 #[test]
@@ -135,7 +124,7 @@ fn each_byte_is_the_refusal_of_the_single_check_or_0() {
         let bytes: Vec<u8> = pile.iter().map(|one| byte_of(one, block, right)).collect();
         for n in 0..=pile.len() {
             // One byte more than there are grants, which stays.
-            let (mut answers, grants) = (vec![0xee; n + 1], bytes_in(&pile[..n]));
+            let (mut answers, grants) = (vec![0xee; n + 1], pile[..n].concat());
             let roll = roll.bytes();
             raw::check_queue(&KEY, ROUNDS, roll, &grants, block, right, &mut answers).unwrap();
             assert_eq!(answers, [&bytes[..n], &[0xee]].concat());
@@ -148,54 +137,45 @@ fn each_byte_is_the_refusal_of_the_single_check_or_0() {
 #[test]
 fn a_change_of_the_roll_is_seen_by_every_grant_of_its_contractor() {
     let mut roll = Roll::empty();
-    roll.enter(SEVEN, Overwriting).unwrap();
-    roll.enter(contractor(8), Overwriting).unwrap();
-    let issued = |to| issue(the_key(), &roll, to, block(300), Overwriting).unwrap();
-    let pile = [SEVEN, contractor(8), SEVEN].map(issued);
+    roll.enter(7, Overwriting).unwrap();
+    roll.enter(8, Overwriting).unwrap();
+    let issued = |contractor| issue(&KEY, ROUNDS, &roll, contractor, block(300), Overwriting);
+    let pile = [7, 8, 7].map(|contractor| issued(contractor).unwrap());
     let verdicts =
-        |roll: &Roll| check_queue(the_key(), roll, &pile, block(300), Overwriting).unwrap();
-    assert_eq!(*verdicts(&roll), [Ok(()); 3]);
-    roll.change_right(SEVEN, Reading).unwrap();
+        |roll: &Roll| check_queue(&KEY, ROUNDS, roll, &pile, block(300), Overwriting).unwrap();
+    assert_eq!(verdicts(&roll), [Ok(()); 3]);
+    roll.change_right(7, Reading).unwrap();
     let demoted = Err(Reason::AboveHighest);
-    assert_eq!(*verdicts(&roll), [demoted, Ok(()), demoted]);
-    roll.change_right(SEVEN, Overwriting).unwrap();
-    assert_eq!(*verdicts(&roll), [Ok(()); 3]);
-    roll.withdraw(SEVEN).unwrap();
+    assert_eq!(verdicts(&roll), [demoted, Ok(()), demoted]);
+    roll.change_right(7, Overwriting).unwrap();
+    assert_eq!(verdicts(&roll), [Ok(()); 3]);
+    roll.withdraw(7).unwrap();
     let dropped = Err(Reason::NotInStanding);
-    assert_eq!(*verdicts(&roll), [dropped, Ok(()), dropped]);
-    roll.enter(SEVEN, Overwriting).unwrap();
+    assert_eq!(verdicts(&roll), [dropped, Ok(()), dropped]);
+    roll.enter(7, Overwriting).unwrap();
     let earlier = Err(Reason::OtherCount);
-    assert_eq!(*verdicts(&roll), [earlier, Ok(()), earlier]);
+    assert_eq!(verdicts(&roll), [earlier, Ok(()), earlier]);
 }
 
 #[test]
 fn a_queue_without_grants_has_no_verdicts() {
-    let verdicts = check_queue(the_key(), &roll(), &[], block(300), Reading).unwrap();
-    assert!(verdicts.is_empty());
-    let queue =
-        |key: &[u8], rounds| raw::check_queue(key, rounds, roll().bytes(), &[], 300, 1, &mut []);
-    assert_eq!(queue(&KEY, ROUNDS), Ok(()));
+    let queue = |key: &[u8], rounds| check_queue(key, rounds, &roll(), &[], block(300), Reading);
+    assert_eq!(queue(&KEY, ROUNDS), Ok(vec![]));
     assert_eq!(queue(&KEY[1..], ROUNDS), Err(Reason::KeyLength));
     assert_eq!(queue(&KEY, 13), Err(Reason::RoundCount));
 }
 
 #[test]
 fn a_queue_has_64_grants_at_most() {
-    let pile = [grant([7, 1, 44, 2]); 1000];
-    let queue = |n: usize| check_queue(the_key(), &roll(), &pile[..n], block(300), Overwriting);
-    for n in 0..=64 {
-        assert_eq!(*queue(n).unwrap(), vec![Ok(()); n], "{n}");
-    }
-    let (grants, answers) = (bytes_in(&pile), &mut [0; 1000]);
-    let mut number = |key: &[u8], rounds, n: usize| {
-        let (roll, grants) = (roll(), &grants[..12 * n]);
-        raw::check_queue(key, rounds, roll.bytes(), grants, 300, 2, answers)
+    let queue = |key: &[u8], rounds, n| {
+        let pile = vec![grant([7, 1, 44, 2]); n];
+        check_queue(key, rounds, &roll(), &pile, block(300), Overwriting)
     };
+    assert_eq!(queue(&KEY, ROUNDS, 64), Ok(vec![Ok(()); 64]));
     for n in [65, 66, 128, 1000] {
-        assert_eq!(queue(n), Err(Reason::InputLength), "{n}");
-        assert_eq!(number(&KEY, ROUNDS, n), Err(Reason::InputLength), "{n}");
-        assert_eq!(number(&KEY[1..], ROUNDS, n), Err(Reason::KeyLength));
-        assert_eq!(number(&KEY, 18, n), Err(Reason::RoundCount));
+        assert_eq!(queue(&KEY, ROUNDS, n), Err(Reason::InputLength), "{n}");
+        assert_eq!(queue(&KEY[1..], ROUNDS, n), Err(Reason::KeyLength));
+        assert_eq!(queue(&KEY, 18, n), Err(Reason::RoundCount));
     }
 }
 

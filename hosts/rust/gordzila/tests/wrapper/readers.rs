@@ -3,32 +3,19 @@
 
 use crate::header::in_one_line;
 use crate::pages::{header, page_of};
-use crate::{block, contractor, key, page_keys, repository_file, SEVEN};
+use crate::{block, repository_file};
 use gordzila::{
-    check_queue, issue, raw, Contractor, Grant, Key, KeyHolder, Opened, PageHeader, Right, Roll,
-    Walked, Way, ROLL_BYTES,
+    raw, KeyHolder, Opened, PageHeader, PageKeys, Right, Roll, Walked, Way, ROLL_BYTES,
 };
 
 /// The readers, each as it stands in the header, in one line.
-const READERS: [&str; 17] = [
+const READERS: [&str; 13] = [
     "int gordzila_opens(uint32_t answer) { return answer >= 1000; }",
-    "uint32_t gordzila_refusal(uint32_t answer) { return gordzila_opens(answer) ? 0 : answer; }",
     "uint32_t gordzila_answered_right(uint32_t answer) { return answer / 1000; }",
     "uint32_t gordzila_answered_contractor(uint32_t answer) \
      { return gordzila_opens(answer) ? answer % 1000 : 0; }",
-    "int gordzila_may_read(const uint8_t *key, size_t key_length, uint32_t rounds, \
-     const uint8_t *roll, size_t roll_length, const uint8_t *grant, size_t grant_length, \
-     uint32_t size_block) { return gordzila_opens(gordzila_check(key, key_length, rounds, roll, \
-     roll_length, grant, grant_length, size_block, GORDZILA_READING)); }",
-    "int gordzila_may_overwrite(const uint8_t *key, size_t key_length, uint32_t rounds, \
-     const uint8_t *roll, size_t roll_length, const uint8_t *grant, size_t grant_length, \
-     uint32_t size_block) { return gordzila_opens(gordzila_check(key, key_length, rounds, roll, \
-     roll_length, grant, grant_length, size_block, GORDZILA_OVERWRITING)); }",
     "int gordzila_queue_opens(uint32_t returned, uint8_t byte) \
      { return returned == 0 && byte == 0; }",
-    "uint32_t gordzila_count(const uint8_t *roll, uint32_t contractor) \
-     { if (contractor < 1 || contractor > 200) { return 0; } \
-     return (uint32_t)roll[2 * contractor - 2] << 8 | roll[2 * contractor - 1]; }",
     "uint32_t gordzila_highest_right(const uint8_t *roll, uint32_t contractor) \
      { if (contractor < 1 || contractor > 200) { return 0; } \
      return roll[GORDZILA_ROLL_COUNTS_BYTES + contractor - 1] == GORDZILA_OVERWRITING \
@@ -48,21 +35,19 @@ const READERS: [&str; 17] = [
     "int gordzila_walked_back(uint32_t answer) { return answer >= 2000; }",
 ];
 
-/// What the first four readers say: whether a grant opens, the reason why not, the right
-/// asked for, and the contractor. The two after them ask the first of a call for one right.
-fn read_check(answer: u32) -> (bool, u32, u32, u32) {
-    match answer >= 1000 {
-        true => (true, 0, answer / 1000, answer % 1000),
-        false => (false, answer, answer / 1000, 0),
-    }
+/// What the first three readers say: whether a grant opens, the right asked
+/// for, and the contractor.
+fn read_check(answer: u32) -> (bool, u32, u32) {
+    let opens = answer >= 1000;
+    (opens, answer / 1000, if opens { answer % 1000 } else { 0 })
 }
 
-/// What the seventh says: whether a grant of a queue opens.
+/// What the fourth says: whether a grant of a queue opens.
 fn read_queue(returned: u32, byte: u8) -> bool {
     returned == 0 && byte == 0
 }
 
-/// What the ninth says: the highest right of a contractor, or 0.
+/// What the fifth says: the highest right of a contractor, or 0.
 fn read_highest(roll: &[u8], contractor: u32) -> u32 {
     match contractor {
         1..=200 if roll[400 + contractor as usize - 1] == 2 => 2,
@@ -92,35 +77,31 @@ fn read_walk(answer: u32) -> (bool, u32, bool) {
 
 #[test]
 fn the_readers_are_those_of_the_header() {
-    let header = repository_file("include/gordzila.h").replace("\nGORDZILA_MUST_USE", "");
-    // A reader goes up to the next one or to a line without words. The words of reasons are
-    // those of the wrapper by another test.
+    let header = repository_file("include/gordzila.h");
+    // A reader goes up to the next one or to a line without words.
     let readers = header
         .split("\nstatic inline ")
         .skip(1)
-        .filter(|rest| !rest.starts_with("const char *gordzila_reason_"))
         .map(|rest| in_one_line(rest.split("\n\n").next().unwrap()));
     assert_eq!(readers.collect::<Vec<_>>(), READERS);
 }
 
 #[test]
 fn a_check_says_what_the_readers_say() {
-    for contractor in [1, 7, 200].map(contractor) {
+    for contractor in [1, 7, 200] {
         let mut roll = Roll::empty();
         roll.enter(contractor, Right::Overwriting).unwrap();
         for right in [Right::Reading, Right::Overwriting] {
-            let issued = issue(key(&[1; 12], 10), &roll, contractor, block(300), right).unwrap();
+            let issued = gordzila::issue(&[1; 12], 10, &roll, contractor, block(300), right);
             for (number, asked) in [(300, 1), (300, 2), (301, 1), (300, 3), (0, 1)] {
-                let (key, roll, grant) = (&[1; 12], roll.bytes(), issued.bytes());
+                let (key, roll, grant) = (&[1; 12], roll.bytes(), &issued.unwrap());
                 let answer = raw::check_number(key, 10, roll, grant, number, asked);
                 let said = match raw::check(key, 10, roll, grant, number, asked) {
-                    Ok(Opened { contractor, right }) => {
-                        (true, 0, right.number(), contractor.number())
-                    }
-                    Err(reason) => (false, reason.number(), 0, 0),
+                    Ok(Opened { contractor, right }) => (true, right.number(), contractor),
+                    Err(_) => (false, 0, 0),
                 };
                 assert_eq!(said, read_check(answer));
-                assert!([0, asked].contains(&said.2), "the right asked for");
+                assert!([0, asked].contains(&said.1), "the right asked for");
             }
         }
     }
@@ -129,31 +110,19 @@ fn a_check_says_what_the_readers_say() {
 /// Over answers that were cleared, so that a queue that is refused leaves zeros.
 #[test]
 fn a_queue_says_what_the_reader_says() {
-    let (bytes, mut roll) = (&[1; 12], Roll::empty());
-    roll.enter(SEVEN, Right::Overwriting).unwrap();
-    let issued = |right| issue(key(bytes, 10), &roll, SEVEN, block(300), right).unwrap();
-    let (reading, overwriting) = (issued(Right::Reading), issued(Right::Overwriting));
-    let pile = [reading, Grant::from([0; 12]), overwriting];
+    let (key, mut roll) = (&[1; 12], Roll::empty());
+    roll.enter(7, Right::Overwriting).unwrap();
+    let issued = |right| gordzila::issue(key, 10, &roll, 7, block(300), right).unwrap();
+    let pile = [issued(Right::Reading), [0; 12], issued(Right::Overwriting)];
     for (rounds, right) in [
         (9, Right::Reading),
         (10, Right::Reading),
         (10, Right::Overwriting),
     ] {
-        let grants = pile.map(|grant| *grant.bytes()).concat();
-        let (asked, mut answers) = (right.number(), [0; 3]);
-        let returned = raw::check_queue_number(
-            bytes,
-            rounds,
-            roll.bytes(),
-            &grants,
-            300,
-            asked,
-            &mut answers,
-        );
-        // A round count that is wrong is refused when the key is made.
-        let queued = Key::new(bytes, rounds)
-            .and_then(|key| check_queue(key, &roll, &pile, block(300), right));
-        let said = match queued {
+        let (grants, asked, mut answers) = (pile.concat(), right.number(), [0; 3]);
+        let returned =
+            raw::check_queue_number(key, rounds, roll.bytes(), &grants, 300, asked, &mut answers);
+        let said = match gordzila::check_queue(key, rounds, &roll, &pile, block(300), right) {
             Ok(verdicts) => verdicts.iter().map(|verdict| verdict.is_ok()).collect(),
             Err(_) => vec![false; 3],
         };
@@ -172,8 +141,7 @@ fn a_roll_says_what_the_reader_says() {
                 *byte = figure;
             }
             let roll = Roll::from_bytes(&bytes).unwrap();
-            let said =
-                Contractor::new(contractor).map_or(0, |one| roll.highest_right(one).number());
+            let said = roll.highest_right(contractor).map_or(0, Right::number);
             let expected = match (contractor, figure) {
                 (1..=200, 2) => 2,
                 (1..=200, _) => 1,
@@ -189,14 +157,13 @@ fn a_roll_says_what_the_reader_says() {
 #[test]
 fn an_opening_says_what_the_readers_say() {
     let (first, second) = (&[1; 12], &[2; 12]);
-    let pair = raw::KeyPair { first, second };
+    let keys = PageKeys { first, second };
     for (block, number, used) in [(0, 0, 0), (13, 1, 1), (u32::MAX, u16::MAX, 492), (0, 1, 9)] {
-        let keys = page_keys(first, second, 10);
-        let page = page_of(keys, header(block, number, used), &vec![3; used.into()]);
+        let page = page_of(keys, 10, header(block, number, used), &vec![3; used.into()]);
         for (rounds, page) in [(9, &page[..]), (10, &page), (11, &page), (10, &page[1..])] {
             let (mut scratch, mut out) = ([0; 576], [0; 492]);
-            let answer = raw::open_page_number(pair, rounds, page, &mut scratch, &mut out);
-            let said = match raw::open_page(pair, rounds, page, &mut scratch, &mut out) {
+            let answer = raw::open_page_number(keys, rounds, page, &mut scratch, &mut out);
+            let said = match raw::open_page(keys, rounds, page, &mut scratch, &mut out) {
                 Ok(PageHeader {
                     size_block,
                     page_number,

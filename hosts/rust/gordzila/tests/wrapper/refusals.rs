@@ -1,15 +1,14 @@
 //! Each refusal of each call, in the order of the header, and that a call that refuses
 //! writes nothing.
 
-use crate::{contractor, key, SEVEN};
 use gordzila::{raw, Opened, Reason, Right, Roll, ROLL_BYTES};
 
 /// A roll on which contractor 7 is in standing and may overwrite, and contractor 9 is in
 /// standing and may only read.
 fn roll() -> [u8; ROLL_BYTES] {
     let mut roll = Roll::empty();
-    roll.enter(SEVEN, Right::Overwriting).unwrap();
-    roll.enter(contractor(9), Right::Reading).unwrap();
+    roll.enter(7, Right::Overwriting).unwrap();
+    roll.enter(9, Right::Reading).unwrap();
     *roll.bytes()
 }
 
@@ -267,7 +266,7 @@ fn checking_refuses_with_1_2_3_7_14_8_9_10_20_23_25() {
     assert_eq!(number(&key, 10, &later, &grant, 300, 1), 1007);
     assert_eq!(number(&key, 10, &roll, &grant, 300, 2), 2007);
     let opened = Opened {
-        contractor: SEVEN,
+        contractor: 7,
         right: Right::Overwriting,
     };
     assert_eq!(raw::check(&key, 10, &roll, &grant, 300, 2), Ok(opened));
@@ -275,13 +274,12 @@ fn checking_refuses_with_1_2_3_7_14_8_9_10_20_23_25() {
 
 #[test]
 fn the_calls_may_be_made_from_many_threads() {
-    let enciphered = || gordzila::encipher(key(&[1; 24], 23), &[2; 12]);
-    let expected = enciphered();
+    let expected = gordzila::encipher(&[1; 24], 23, &[2; 12]);
     std::thread::scope(|scope| {
         for _ in 0..4 {
             scope.spawn(|| {
                 for _ in 0..100 {
-                    assert_eq!(enciphered(), expected);
+                    assert_eq!(gordzila::encipher(&[1; 24], 23, &[2; 12]), expected);
                 }
             });
         }

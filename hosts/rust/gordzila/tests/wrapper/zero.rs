@@ -3,8 +3,8 @@
 //! of the library makes them any more.
 
 use crate::pages::{header, page_of};
-use crate::{bytes_of, contractor, digits_of, key, number_of, page_keys, repository_file};
-use gordzila::{encipher, raw, Contractor, Opened, Reason, Roll};
+use crate::{bytes_of, digits_of, number_of, repository_file};
+use gordzila::{encipher, raw, Opened, PageKeys, Reason, Roll};
 
 /// What the independent program prints for `zero`, and some of what it prints for `answers`.
 const STORED: &str = "hosts/c/zero.log";
@@ -58,7 +58,7 @@ struct Life {
     first: Vec<u8>,
     second: Vec<u8>,
     rounds: u32,
-    contractor: Contractor,
+    contractor: u32,
     right: u8,
     page_number: u16,
     payload: Vec<u8>,
@@ -126,7 +126,7 @@ impl Life {
             first: bytes_of(fields[1]),
             second: bytes_of(fields[2]),
             rounds: number_of(fields[3]),
-            contractor: contractor(number_of(fields[4])),
+            contractor: number_of(fields[4]),
             right: fields[6].parse().unwrap(),
             page_number: fields[7].parse().unwrap(),
             payload: bytes_of(opened)[..used].to_vec(),
@@ -136,8 +136,8 @@ impl Life {
         }
     }
 
-    fn pair(&self) -> raw::KeyPair<'_> {
-        raw::KeyPair {
+    fn keys(&self) -> PageKeys<'_> {
+        PageKeys {
             first: &self.first,
             second: &self.second,
         }
@@ -167,19 +167,18 @@ impl Life {
 
     /// By the rule on plain bytes: to the contractor at count 1, for size block 0.
     fn old_grant(&mut self) -> String {
-        let contractor = self.contractor.number() as u8;
+        let contractor = self.contractor as u8;
         let plain = [
             0, contractor, 0, 1, 0, 0, 0, 0, self.right, 0x47, 0x52, 0x44,
         ];
-        self.grants[0] = encipher(key(&self.first, self.rounds), &plain);
+        self.grants[0] = encipher(&self.first, self.rounds, &plain).unwrap();
         format!("old {}", digits_of(&self.grants[0]))
     }
 
     /// By the rule on pages, for size block 0.
     fn old_page(&mut self) -> String {
         let header = header(0, self.page_number, self.payload.len() as u16);
-        let keys = page_keys(&self.first, &self.second, self.rounds);
-        let page = page_of(keys, header, &self.payload);
+        let page = page_of(self.keys(), self.rounds, header, &self.payload);
         self.pages[0] = page.to_vec();
         format!("oldpage {}", digits_of(&page))
     }
@@ -191,7 +190,7 @@ impl Life {
         call: fn(&mut [u8], u32, u32) -> u32,
     ) -> String {
         let mut bytes = *self.roll.bytes();
-        let number = call(&mut bytes, self.contractor.number(), number_of(highest));
+        let number = call(&mut bytes, self.contractor, number_of(highest));
         self.roll = Roll::from_bytes(&bytes).unwrap();
         format!("{name} {highest} {number}")
     }
@@ -204,7 +203,7 @@ impl Life {
             key,
             self.rounds,
             roll,
-            self.contractor.number(),
+            self.contractor,
             block,
             right,
             &mut grant,
@@ -238,8 +237,8 @@ impl Life {
     }
 
     fn entry(&self) -> String {
-        let count = self.roll.count(self.contractor);
-        let highest = self.roll.highest_right(self.contractor);
+        let count = self.roll.count(self.contractor).unwrap();
+        let highest = self.roll.highest_right(self.contractor).unwrap();
         format!("entry {count} {}", highest.number())
     }
 
@@ -248,7 +247,7 @@ impl Life {
         let (scratch, mut page) = (&mut [0; 576], [0; 512]);
         let (block, number, payload) = (number_of(size), self.page_number, &self.payload);
         match raw::seal_page(
-            self.pair(),
+            self.keys(),
             self.rounds,
             block,
             number,
@@ -266,7 +265,7 @@ impl Life {
 
     fn open(&self, of: &str) -> String {
         let (page, scratch, mut out) = (&self.pages[which(of)], &mut [0; 576], [0; 492]);
-        let opened = raw::open_page(self.pair(), self.rounds, page, scratch, &mut out).unwrap();
+        let opened = raw::open_page(self.keys(), self.rounds, page, scratch, &mut out).unwrap();
         let (block, number, used) = (opened.size_block, opened.page_number, opened.used);
         let payload = digits_of(&out);
         format!("open {of} 0 {block} {number} {used} {payload}")
