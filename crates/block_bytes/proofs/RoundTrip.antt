@@ -112,7 +112,8 @@ first-blocks bytes (suc k) h =
     let block : ℕ → List ℕ = λ r. take 12 (drop (12 * r) bytes) in
     let l : length (block k) ≡ 12 = length-take-le 12 (drop (12 * k) bytes) (omega (arith, length-drop (12 * k) bytes)) in
     let n : 12 * k + 12 ≡ 12 * suc k = omega arith in
-    ap list_bytes (listed_snoc 0 k (λ r. state_of (block r)) ∙ ap (λ (m : ℕ). listed_from 0 k (λ r. state_of (block r)) ++ (state_of (block m) ∷ [])) (zero-add k))
+    ap list_bytes (listed_snoc 0 k (λ r. state_of (block r))
+    ∙ ap (λ (m : ℕ). listed_from 0 k (λ r. state_of (block r)) ++ (state_of (block m) ∷ [])) (zero-add k))
     ∙ bytes_snoc (listed_from 0 k (λ r. state_of (block r))) (state_of (block k))
     ∙ ap₂ ◌++◌ (first-blocks bytes k (omega arith)) (bytes_state (block k) l)
     ∙ sym (take-add (12 * k) 12 bytes) ∙ ap (λ (m : ℕ). take m bytes) n

@@ -1,5 +1,7 @@
 // A state from twelve lent bytes, and a state or any bytes written to lent bytes: byte i + 3j is row i, column j.
 
+#![tactic(auto)]
+
 ghost use Rattle.std.specs.Prelude.{◌≡◌, ◌++◌, ◌+◌, ◌≤◌, length, get_or, take, drop, set};
 ghost use Rattle.block_bytes.specs.Blocks.{state_of, bytes_of};
 

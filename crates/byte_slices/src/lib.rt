@@ -1,5 +1,7 @@
 // Lent bytes: whether two are the same, whether they are zero from a place on, and one byte in the place of all of them.
 
+#![tactic(auto)]
+
 ghost use Rattle.std.specs.Prelude.{◌≡◌, length, drop, replicate};
 ghost use Rattle.byte_slices.specs.Slices.{all_zero, same_bytes};
 

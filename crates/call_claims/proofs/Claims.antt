@@ -171,7 +171,8 @@ holds_7 =
 
 -- contractor 7 gets a grant with either right
 pub issued_7 : (right : ℕ) → is_right right ≡ true → CallIssued (replicate 12 0) 10 bytes_with7 7 300 right (replicate 12 0)
-unfolding bytes_after called enter_call_roll first is_size_block written answered roll_of counts_of roll_bytes counts_bytes empty_roll count_of figure_of in_standing
+unfolding bytes_after called enter_call_roll first is_size_block written answered roll_of counts_of roll_bytes counts_bytes empty_roll count_of
+    figure_of in_standing
     with_entry entered_roll
 issued_7 right q = record {
   key-bytes = zeros-small (lit< tt) 12;

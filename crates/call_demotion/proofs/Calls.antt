@@ -91,7 +91,8 @@ pub issue-read : (key : List ℕ) (rounds : ℕ) (roll : List ℕ) (c block righ
     → issue_call_number key rounds roll c block right out ≡ issue_number key rounds (roll_of roll) c block right out
 unfolding first
 issue-read key rounds roll c block right out l =
-    ap (λ (b : Bool). first ((settings_tries (length key) rounds ++ ((3 unless b) ∷ [])) ++ wanted_tries (length out) c block right (entry_of (roll_of roll) c)))
+    ap (λ (b : Bool). first ((settings_tries (length key) rounds ++ ((3 unless b)
+    ∷ [])) ++ wanted_tries (length out) c block right (entry_of (roll_of roll) c)))
     (eq-eqb (length roll) roll_length l)
 
 -- an issue for reading, where the contractor's count is the same

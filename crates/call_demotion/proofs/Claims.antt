@@ -89,11 +89,13 @@ call_issue_twenty_five_exactly_above key rounds roll c block right out =
 -- ---- the example
 -- what contractor 7 has on the bytes, computed
 demoted_7 : change_call_number bytes_with7 7 1 ≡ 0
-unfolding bytes_after called enter_call_roll first written answered roll_of counts_of roll_bytes counts_bytes empty_roll count_of in_standing with_entry entered_roll
+unfolding bytes_after called enter_call_roll first written answered roll_of counts_of roll_bytes counts_bytes empty_roll count_of in_standing
+    with_entry entered_roll
 demoted_7 = refl
 
 overwriting_7 : figure_of (roll_of bytes_with7) 7 ≡ 2
-unfolding bytes_after called enter_call_roll first written answered roll_of counts_of roll_bytes counts_bytes empty_roll count_of figure_of in_standing with_entry
+unfolding bytes_after called enter_call_roll first written answered roll_of counts_of roll_bytes counts_bytes empty_roll count_of figure_of
+    in_standing with_entry
     entered_roll
 overwriting_7 = refl
 
@@ -119,7 +121,8 @@ unfolding called changed
 low_7 = call_holds (change 7 1) bytes_with7 holds_7.small holds_7.long
 
 low_count_7 : count_of (roll_of (change_call_roll bytes_with7 7 1)) 7 ≡ 1
-unfolding count_of bytes_after called enter_call_roll first written answered roll_of counts_of roll_bytes counts_bytes empty_roll in_standing with_entry entered_roll
+unfolding count_of bytes_after called enter_call_roll first written answered roll_of counts_of roll_bytes counts_bytes empty_roll in_standing
+    with_entry entered_roll
 low_count_7 = ap (λ (ns : List ℕ). get_or ns 6 0) (same_counts bytes_with7 holds_7.small holds_7.long 7 1)
 
 refused_7 : enter_call_number (change_call_roll bytes_with7 7 1) 7 2 ≡ 21

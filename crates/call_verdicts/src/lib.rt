@@ -1,6 +1,8 @@
 // Demand 2 of running C calls, on a roll's bytes: functions that make the calls and nothing else, and whose contracts say when a grant opens,
 // and that what was issued opens, for all that can be handed in.
 
+#![tactic(auto)]
+
 ghost use Rattle.std.specs.Prelude.{◌≡◌};
 ghost use Rattle.issue_call.specs.IssueCall.{issue_call_output};
 ghost use Rattle.call_verdicts.specs.CallDecisions.{CallDecides, issued_code};

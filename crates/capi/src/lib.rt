@@ -1,6 +1,8 @@
-// The C interface: the calls over numbers and byte slices. A slice is a pointer and a length. Each answers 0, or the number of the reason
+// The C interface: the calls over numbers and byte slices, as `capi_c` hands them to C. Each answers 0, or the number of the reason
 // for which it refuses; where it does not refuse, the check answers with contractor and the right asked for, a walk with its steps and direction,
 // and the opening of a page with the header's numbers.
+
+#![tactic(auto)]
 
 ghost use Rattle.std.specs.Prelude.{◌≡◌};
 ghost use Rattle.engine.specs.Engine.{engine_number, engine_output};
@@ -24,8 +26,7 @@ ghost use Rattle.holder_subkey_call.specs.SubkeyCall.{held_subkey_number, held_s
 use key_lists::Direction;
 
 // Enciphers one block.
-#[unsafe(no_mangle)]
-pub extern "C" fn gordzila_encipher(key: &[u8], rounds: u32, block: &[u8], out: &mut [u8]) -> u32
+pub fn gordzila_encipher(key: &[u8], rounds: u32, block: &[u8], out: &mut [u8]) -> u32
     ensures value { result ≡ cipher_number key.now rounds block.now out.old }
     ensures out_after { out.new ≡ cipher_output Enciphering key.now rounds block.now out.old }
 {
@@ -33,8 +34,7 @@ pub extern "C" fn gordzila_encipher(key: &[u8], rounds: u32, block: &[u8], out: 
 }
 
 // Deciphers one block.
-#[unsafe(no_mangle)]
-pub extern "C" fn gordzila_decipher(key: &[u8], rounds: u32, block: &[u8], out: &mut [u8]) -> u32
+pub fn gordzila_decipher(key: &[u8], rounds: u32, block: &[u8], out: &mut [u8]) -> u32
     ensures value { result ≡ cipher_number key.now rounds block.now out.old }
     ensures out_after { out.new ≡ cipher_output Deciphering key.now rounds block.now out.old }
 {
@@ -42,8 +42,7 @@ pub extern "C" fn gordzila_decipher(key: &[u8], rounds: u32, block: &[u8], out: 
 }
 
 // Prepares the subkey list for enciphering.
-#[unsafe(no_mangle)]
-pub extern "C" fn gordzila_prepare_enciphering(key: &[u8], rounds: u32, out: &mut [u8]) -> u32
+pub fn gordzila_prepare_enciphering(key: &[u8], rounds: u32, out: &mut [u8]) -> u32
     ensures value { result ≡ prepare_number key.now rounds out.old }
     ensures out_after { out.new ≡ prepare_output Enciphering key.now rounds out.old }
 {
@@ -51,8 +50,7 @@ pub extern "C" fn gordzila_prepare_enciphering(key: &[u8], rounds: u32, out: &mu
 }
 
 // Prepares the subkey list for deciphering.
-#[unsafe(no_mangle)]
-pub extern "C" fn gordzila_prepare_deciphering(key: &[u8], rounds: u32, out: &mut [u8]) -> u32
+pub fn gordzila_prepare_deciphering(key: &[u8], rounds: u32, out: &mut [u8]) -> u32
     ensures value { result ≡ prepare_number key.now rounds out.old }
     ensures out_after { out.new ≡ prepare_output Deciphering key.now rounds out.old }
 {
@@ -60,8 +58,7 @@ pub extern "C" fn gordzila_prepare_deciphering(key: &[u8], rounds: u32, out: &mu
 }
 
 // Runs the engine over a lent subkey list.
-#[unsafe(no_mangle)]
-pub extern "C" fn gordzila_run(list: &[u8], block: &[u8], out: &mut [u8]) -> u32
+pub fn gordzila_run(list: &[u8], block: &[u8], out: &mut [u8]) -> u32
     ensures value { result ≡ engine_number list.now block.now out.old }
     ensures out_after { out.new ≡ engine_output list.now block.now out.old }
 {
@@ -69,8 +66,7 @@ pub extern "C" fn gordzila_run(list: &[u8], block: &[u8], out: &mut [u8]) -> u32
 }
 
 // Checks a grant for one size block and one right: the refusal number, or 1,000 times that right plus the contractor.
-#[unsafe(no_mangle)]
-pub extern "C" fn gordzila_check(
+pub fn gordzila_check(
     key: &[u8],
     rounds: u32,
     roll: &[u8],
@@ -84,8 +80,7 @@ pub extern "C" fn gordzila_check(
 }
 
 // Checks a queue of grants for one size block and one right: 0 and a byte for each grant, or the refusal number.
-#[unsafe(no_mangle)]
-pub extern "C" fn gordzila_check_queue(
+pub fn gordzila_check_queue(
     key: &[u8],
     rounds: u32,
     roll: &[u8],
@@ -103,8 +98,7 @@ pub extern "C" fn gordzila_check_queue(
 }
 
 // Seals a page: 512 bytes to the output.
-#[unsafe(no_mangle)]
-pub extern "C" fn gordzila_seal_page(
+pub fn gordzila_seal_page(
     first_key: &[u8],
     second_key: &[u8],
     rounds: u32,
@@ -136,8 +130,7 @@ pub extern "C" fn gordzila_seal_page(
 }
 
 // Opens a page: the refusal number, or the header's numbers with the top bit set; and the payload's 492 bytes to the output.
-#[unsafe(no_mangle)]
-pub extern "C" fn gordzila_open_page(
+pub fn gordzila_open_page(
     first_key: &[u8],
     second_key: &[u8],
     rounds: u32,
@@ -156,8 +149,7 @@ pub extern "C" fn gordzila_open_page(
 }
 
 // The empty roll: its bytes to the output.
-#[unsafe(no_mangle)]
-pub extern "C" fn gordzila_empty_roll(out: &mut [u8]) -> u32
+pub fn gordzila_empty_roll(out: &mut [u8]) -> u32
     ensures value { result ≡ empty_call_number out.old }
     ensures out_after { out.new ≡ empty_call_output out.old }
 {
@@ -165,8 +157,7 @@ pub extern "C" fn gordzila_empty_roll(out: &mut [u8]) -> u32
 }
 
 // Enters a contractor with a highest right.
-#[unsafe(no_mangle)]
-pub extern "C" fn gordzila_enter(roll: &mut [u8], contractor: u32, right: u32) -> u32
+pub fn gordzila_enter(roll: &mut [u8], contractor: u32, right: u32) -> u32
     ensures value { result ≡ enter_call_number roll.old contractor right }
     ensures roll_after { roll.new ≡ enter_call_roll roll.old contractor right }
 {
@@ -174,8 +165,7 @@ pub extern "C" fn gordzila_enter(roll: &mut [u8], contractor: u32, right: u32) -
 }
 
 // Withdraws a contractor.
-#[unsafe(no_mangle)]
-pub extern "C" fn gordzila_withdraw(roll: &mut [u8], contractor: u32) -> u32
+pub fn gordzila_withdraw(roll: &mut [u8], contractor: u32) -> u32
     ensures value { result ≡ withdraw_call_number roll.old contractor }
     ensures roll_after { roll.new ≡ withdraw_call_roll roll.old contractor }
 {
@@ -183,8 +173,7 @@ pub extern "C" fn gordzila_withdraw(roll: &mut [u8], contractor: u32) -> u32
 }
 
 // Changes the highest right of a contractor.
-#[unsafe(no_mangle)]
-pub extern "C" fn gordzila_change_right(roll: &mut [u8], contractor: u32, right: u32) -> u32
+pub fn gordzila_change_right(roll: &mut [u8], contractor: u32, right: u32) -> u32
     ensures value { result ≡ change_call_number roll.old contractor right }
     ensures roll_after { roll.new ≡ change_call_roll roll.old contractor right }
 {
@@ -192,8 +181,7 @@ pub extern "C" fn gordzila_change_right(roll: &mut [u8], contractor: u32, right:
 }
 
 // Issues a grant: twelve bytes to the output.
-#[unsafe(no_mangle)]
-pub extern "C" fn gordzila_issue(
+pub fn gordzila_issue(
     key: &[u8],
     rounds: u32,
     roll: &[u8],
@@ -210,8 +198,7 @@ pub extern "C" fn gordzila_issue(
 }
 
 // A key's stage n: 24 bytes, with zeros past the key's length.
-#[unsafe(no_mangle)]
-pub extern "C" fn gordzila_stage(key: &[u8], n: u32, out: &mut [u8]) -> u32
+pub fn gordzila_stage(key: &[u8], n: u32, out: &mut [u8]) -> u32
     ensures value { result ≡ stage_call_number 24 key.now n out.old }
     ensures out_after { out.new ≡ stage_call_output key.now n out.old }
 {
@@ -219,8 +206,7 @@ pub extern "C" fn gordzila_stage(key: &[u8], n: u32, out: &mut [u8]) -> u32
 }
 
 // The subkey of a key's stage n: 12 bytes.
-#[unsafe(no_mangle)]
-pub extern "C" fn gordzila_subkey(key: &[u8], n: u32, out: &mut [u8]) -> u32
+pub fn gordzila_subkey(key: &[u8], n: u32, out: &mut [u8]) -> u32
     ensures value { result ≡ stage_call_number 12 key.now n out.old }
     ensures out_after { out.new ≡ subkey_call_output key.now n out.old }
 {
@@ -228,8 +214,7 @@ pub extern "C" fn gordzila_subkey(key: &[u8], n: u32, out: &mut [u8]) -> u32
 }
 
 // Makes a holder of a key at stage 0: 26 bytes.
-#[unsafe(no_mangle)]
-pub extern "C" fn gordzila_holder_make(key: &[u8], out: &mut [u8]) -> u32
+pub fn gordzila_holder_make(key: &[u8], out: &mut [u8]) -> u32
     ensures value { result ≡ make_call_number key.now out.old }
     ensures out_after { out.new ≡ make_call_output key.now out.old }
 {
@@ -237,8 +222,7 @@ pub extern "C" fn gordzila_holder_make(key: &[u8], out: &mut [u8]) -> u32
 }
 
 // Steps a holder forward.
-#[unsafe(no_mangle)]
-pub extern "C" fn gordzila_holder_forward(holder: &mut [u8]) -> u32
+pub fn gordzila_holder_forward(holder: &mut [u8]) -> u32
     ensures value { result ≡ step_call_number holder.old }
     ensures holder_after { holder.new ≡ step_call_holder Forward holder.old }
 {
@@ -246,8 +230,7 @@ pub extern "C" fn gordzila_holder_forward(holder: &mut [u8]) -> u32
 }
 
 // Steps a holder back.
-#[unsafe(no_mangle)]
-pub extern "C" fn gordzila_holder_back(holder: &mut [u8]) -> u32
+pub fn gordzila_holder_back(holder: &mut [u8]) -> u32
     ensures value { result ≡ step_call_number holder.old }
     ensures holder_after { holder.new ≡ step_call_holder Back holder.old }
 {
@@ -255,8 +238,7 @@ pub extern "C" fn gordzila_holder_back(holder: &mut [u8]) -> u32
 }
 
 // Walks a holder to stage n: the refusal number, or the steps plus 1,000 for forward and 2,000 for back.
-#[unsafe(no_mangle)]
-pub extern "C" fn gordzila_holder_walk(holder: &mut [u8], n: u32) -> u32
+pub fn gordzila_holder_walk(holder: &mut [u8], n: u32) -> u32
     ensures value { result ≡ walk_call_code holder.old n }
     ensures holder_after { holder.new ≡ walk_call_holder holder.old n }
 {
@@ -264,8 +246,7 @@ pub extern "C" fn gordzila_holder_walk(holder: &mut [u8], n: u32) -> u32
 }
 
 // The subkey of the stage that a holder is at: 12 bytes.
-#[unsafe(no_mangle)]
-pub extern "C" fn gordzila_holder_subkey(holder: &[u8], out: &mut [u8]) -> u32
+pub fn gordzila_holder_subkey(holder: &[u8], out: &mut [u8]) -> u32
     ensures value { result ≡ held_subkey_number holder.now out.old }
     ensures out_after { out.new ≡ held_subkey_output holder.now out.old }
 {

@@ -67,33 +67,39 @@ of_sum : {R : Type 0} {k e : List ℕ} → k ≡ e → R → (k ≡ e) × ((k �
 of_sum p rest = (p, (p, rest))
 
 last_stages : Hold known_answers
-unfolding known_answers sbox table_p table_q times product reduced columns plus padded column_rule moved linear_step constant stage zeros closing_sum step_constant
+unfolding known_answers sbox table_p table_q times product reduced columns plus padded column_rule moved linear_step constant stage zeros
+    closing_sum step_constant
     holder_bytes
 last_stages = of_stage 12 11 refl (of_stage 18 17 refl (of_stage 24 23 refl (of_sum refl (of_sum refl (of_sum refl tt)))))
 
 -- each grant is deciphered once
 opened_a : opened_grant key_of12 10 overwriting_of1 ≡ threes (0x000100 ∷ 0x010000 ∷ 0x012C02 ∷ 0x475244 ∷ [])
-unfolding opened_grant cipher_block list_for subkeys turned listed_from enciphered rounds round last_round sbox table_p table_q times product reduced columns plus
+unfolding opened_grant cipher_block list_for subkeys turned listed_from enciphered rounds round last_round sbox table_p table_q times product
+    reduced columns plus
     column_rule moved linear_step constant stage
 opened_a = refl
 
 opened_b : opened_grant key_of12 10 reading_of1 ≡ threes (0x000100 ∷ 0x010000 ∷ 0x012C01 ∷ 0x475244 ∷ [])
-unfolding opened_grant cipher_block list_for subkeys turned listed_from enciphered rounds round last_round sbox table_p table_q times product reduced columns plus
+unfolding opened_grant cipher_block list_for subkeys turned listed_from enciphered rounds round last_round sbox table_p table_q times product
+    reduced columns plus
     column_rule moved linear_step constant stage
 opened_b = refl
 
 opened_c : opened_grant key_of12 10 overwriting_of2 ≡ threes (0x000200 ∷ 0x020000 ∷ 0x012C02 ∷ 0x475244 ∷ [])
-unfolding opened_grant cipher_block list_for subkeys turned listed_from enciphered rounds round last_round sbox table_p table_q times product reduced columns plus
+unfolding opened_grant cipher_block list_for subkeys turned listed_from enciphered rounds round last_round sbox table_p table_q times product
+    reduced columns plus
     column_rule moved linear_step constant stage
 opened_c = refl
 
 opened_d : opened_grant key_of12 10 earlier_of3 ≡ threes (0x000300 ∷ 0x010000 ∷ 0x012C02 ∷ 0x475244 ∷ [])
-unfolding opened_grant cipher_block list_for subkeys turned listed_from enciphered rounds round last_round sbox table_p table_q times product reduced columns plus
+unfolding opened_grant cipher_block list_for subkeys turned listed_from enciphered rounds round last_round sbox table_p table_q times product
+    reduced columns plus
     column_rule moved linear_step constant stage
 opened_d = refl
 
 opened_e : opened_grant key_of12 10 overwriting_of3 ≡ threes (0x000300 ∷ 0x030000 ∷ 0x012C02 ∷ 0x475244 ∷ [])
-unfolding opened_grant cipher_block list_for subkeys turned listed_from enciphered rounds round last_round sbox table_p table_q times product reduced columns plus
+unfolding opened_grant cipher_block list_for subkeys turned listed_from enciphered rounds round last_round sbox table_p table_q times product
+    reduced columns plus
     column_rule moved linear_step constant stage
 opened_e = refl
 
@@ -104,7 +110,8 @@ said r g p =
     first (input_tries 12 10 (eqb (length g) 12) 300 r ++ plain_tries p (entry_of roll (contractor_in p)) 300 r)
 
 piles : Hold pile_answers
-unfolding pile_answers queue_answers listed_from first is_size_block highest within_highest count_of figure_of in_standing covers contractor_in count_in size_block_in
+unfolding pile_answers queue_answers listed_from first is_size_block highest within_highest count_of figure_of in_standing covers contractor_in
+    count_in size_block_in
     is_marked is_grant
 piles =
     (λ j.

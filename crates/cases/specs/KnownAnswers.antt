@@ -1,5 +1,5 @@
 -- The known answers: beside document 01's thirteen cases, a second list of computed facts, which pins definitions that no case of document 01
--- pins. What is expected is what the independent program prints, line by line (`reference answers`); `tools/known_answers_lem` compares the two.
+-- pins. What is expected is what the independent program prints, line by line (`reference answers`); `tools/known-answers` compares the two.
 -- Each crate has those of its definitions beside them; here stand those that take long to compute, the last stages with their subkeys and holders,
 -- the closing sums and a queue of five grants, and the claim over them all. Where that program has no such call, document 01's order lines are taken
 -- as they stand, as the requests amend them.
@@ -141,7 +141,8 @@ order_answers =
     -- withdraw 3, 6, 20
     ∷ ((withdraw_call_number (replicate 599 0) 0 ∷ withdraw_call_number (replicate 600 0) 0 ∷ []) is (3 ∷ 6 ∷ []))
     -- change of right 3, 6, 7, 20
-    ∷ ((change_call_number (replicate 599 0) 0 3 ∷ change_call_number (replicate 600 0) 0 3 ∷ change_call_number (replicate 600 0) 7 3 ∷ []) is (3 ∷ 6 ∷ 7 ∷ []))
+    ∷ ((change_call_number (replicate 599 0) 0 3 ∷ change_call_number (replicate 600 0) 0 3 ∷ change_call_number (replicate 600 0) 7 3
+    ∷ []) is (3 ∷ 6 ∷ 7 ∷ []))
     -- issue 1, 2, 3, 4, 6, 7, 14, 20, 25, of which 2, 3, 4, 7 and 14 with their neighbours
     ∷ ((issue_call_number (replicate 12 0) 12 (replicate 599 0) 0 300 3 (replicate 11 0) ∷ []) is (2 ∷ []))
     ∷ ((issue_call_number (replicate 12 0) 10 (replicate 599 0) 0 300 3 (replicate 11 0) ∷ []) is (3 ∷ []))

@@ -1,5 +1,7 @@
 // Blocks in lent bytes chained under a subkey list, in their place; and the last block of such a chaining, with the bytes left as they are.
 
+#![tactic(auto)]
+
 ghost use Rattle.std.specs.Prelude.{◌≡◌, true, ◌*◌, ◌/◌, length};
 ghost use Rattle.layers.specs.Layers.{added};
 ghost use Rattle.rounds.specs.Rounds.{enciphered};

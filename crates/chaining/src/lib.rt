@@ -1,1 +1,3 @@
 // Blocks chained: definitions, laws and claims; no code.
+
+#![tactic(auto)]

@@ -1,5 +1,7 @@
 // The plotter's call, as the C call of the check makes it: a grant checked on a roll's bytes, of which it reads the one entry that it needs.
 
+#![tactic(auto)]
+
 ghost use Rattle.std.specs.Prelude.{◌≡◌, ◌&&◌, ◌≤◌, eqb};
 ghost use Rattle.roll_bytes.specs.RollBytes.{roll_length};
 ghost use Rattle.grant.specs.Grants.{verdict_contractor};

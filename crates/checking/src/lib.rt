@@ -1,5 +1,7 @@
 // Checking a grant on a roll by value: the input tried, the grant opened, and the verdict on its plain bytes.
 
+#![tactic(auto)]
+
 ghost use Rattle.std.specs.Prelude.{◌≡◌, true, length};
 ghost use Rattle.list_rounds.specs.ListRounds.{list_length};
 ghost use Rattle.engine.specs.Engine.{engine_block};

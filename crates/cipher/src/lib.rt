@@ -1,5 +1,7 @@
 // One block enciphered or deciphered: the subkey list is prepared in local bytes, and the engine runs over it.
 
+#![tactic(auto)]
+
 ghost use Rattle.std.specs.Prelude.{◌≡◌, length};
 ghost use Rattle.refusal.specs.Reasons.{outcome_number};
 ghost use Rattle.rounds.specs.Rounds.{enciphered};

@@ -2,105 +2,108 @@
 // was left alone: all of the output where it refuses, and what lies past the written bytes where it does not. The rows have each reason
 // for refusing alone, each two that can hold together, and both sides of every limit (tools/expected-refusals).
 
+#![tactic(auto)]
+
 use key_lists::Direction;
 use refusal::Outcome;
+use std::io;
 
 const MARK: u8 = 165;
 
 // The end of a line: the number, and whether all bytes from `written` on, or all of them after a refusal, still bear the mark.
-fn answer(outcome: Outcome, out: &[u8], written: usize) {
+fn answer(rt: &impl Print, outcome: Outcome, out: &[u8], written: usize) -> io::Result<()> {
     let n = refusal::outcome_number(outcome);
-    printing::number(n as u64);
-    printing::kept(out, if n == 0 { written } else { 0 }, MARK);
+    printing::number(rt, n as u64)?;
+    printing::kept(rt, out, if n == 0 { written } else { 0 }, MARK)
 }
 
-fn encipher_line() {
+fn encipher_line(rt: &(impl Print + Input)) -> io::Result<()> {
     let key = [7u8; 32];
     let block = [9u8; 16];
     let mut out = [MARK; 32];
-    printing::word(b"encipher");
-    let k = printing::echo();
-    let r = printing::echo_u32();
-    let b = printing::echo();
-    let o = printing::echo();
+    printing::word(rt, b"encipher")?;
+    let k = printing::echo(rt)?;
+    let r = printing::echo_u32(rt)?;
+    let b = printing::echo(rt)?;
+    let o = printing::echo(rt)?;
     let outcome = cipher::encipher(
         printing::first(&key, k),
         r,
         printing::first(&block, b),
         printing::first_mut(&mut out, o),
     );
-    answer(outcome, &out, 12);
+    answer(rt, outcome, &out, 12)
 }
 
-fn decipher_line() {
+fn decipher_line(rt: &(impl Print + Input)) -> io::Result<()> {
     let key = [7u8; 32];
     let block = [9u8; 16];
     let mut out = [MARK; 32];
-    printing::word(b"decipher");
-    let k = printing::echo();
-    let r = printing::echo_u32();
-    let b = printing::echo();
-    let o = printing::echo();
+    printing::word(rt, b"decipher")?;
+    let k = printing::echo(rt)?;
+    let r = printing::echo_u32(rt)?;
+    let b = printing::echo(rt)?;
+    let o = printing::echo(rt)?;
     let outcome = cipher::decipher(
         printing::first(&key, k),
         r,
         printing::first(&block, b),
         printing::first_mut(&mut out, o),
     );
-    answer(outcome, &out, 12);
+    answer(rt, outcome, &out, 12)
 }
 
-fn prepare_line(name: &[u8], direction: Direction) {
+fn prepare_line(rt: &(impl Print + Input), name: &[u8], direction: Direction) -> io::Result<()> {
     let key = [7u8; 32];
     let mut out = [MARK; 320];
-    printing::word(name);
-    let k = printing::echo();
-    let r = printing::echo_u32();
-    let o = printing::echo();
+    printing::word(rt, name)?;
+    let k = printing::echo(rt)?;
+    let r = printing::echo_u32(rt)?;
+    let o = printing::echo(rt)?;
     let outcome = lists::prepare(
         printing::first(&key, k),
         r,
         direction,
         printing::first_mut(&mut out, o),
     );
-    answer(outcome, &out, 12 * (r as usize + 1));
+    answer(rt, outcome, &out, 12 * (r as usize + 1))
 }
 
-fn run_line() {
+fn run_line(rt: &(impl Print + Input)) -> io::Result<()> {
     let list = [7u8; 320];
     let block = [9u8; 16];
     let mut out = [MARK; 32];
-    printing::word(b"run");
-    let l = printing::echo();
-    let b = printing::echo();
-    let o = printing::echo();
+    printing::word(rt, b"run")?;
+    let l = printing::echo(rt)?;
+    let b = printing::echo(rt)?;
+    let o = printing::echo(rt)?;
     let outcome = engine::run(
         printing::first(&list, l),
         printing::first(&block, b),
         printing::first_mut(&mut out, o),
     );
-    answer(outcome, &out, 12);
+    answer(rt, outcome, &out, 12)
 }
 
-fn line(call: u64) {
+fn line(rt: &(impl Print + Input), call: u64) -> io::Result<()> {
     if call == 1 {
-        encipher_line();
+        encipher_line(rt)
     } else if call == 2 {
-        decipher_line();
+        decipher_line(rt)
     } else if call == 3 {
-        prepare_line(b"prepare_enciphering", Direction::Enciphering);
+        prepare_line(rt, b"prepare_enciphering", Direction::Enciphering)
     } else if call == 4 {
-        prepare_line(b"prepare_deciphering", Direction::Deciphering);
+        prepare_line(rt, b"prepare_deciphering", Direction::Deciphering)
     } else {
-        run_line();
+        run_line(rt)
     }
 }
 
-fn main() {
-    let rows = printing::read();
-    let mut i: u64 = 0;
-    while i < rows {
-        line(printing::read());
-        i += 1;
+fn main(rt: HostRuntime) -> io::Result<()> {
+    let rows = printing::read(&rt)?;
+    for _ in 0..rows {
+        let call = printing::read(&rt)?;
+        line(&rt, call)?;
     }
+    Ok(())
 }

@@ -1,47 +1,48 @@
 // Prints the constant of every step of a turn, and of numbers outside it, for each key size, in the format of the independent program's
 // `constants` (reference/README.md): what the routine adds to a stage of zeros.
 
+#![tactic(auto)]
+
 ghost use Rattle.sizes.specs.Sizes.{Sized};
 
-fn print_line(length: usize, s: usize, k: [u8; 24]) {
-    printing::word(b"constant ");
-    printing::decimal(length as u64);
-    printing::space();
-    printing::decimal(s as u64);
-    printing::space();
-    printing::hex_bytes(printing::first(&k, length));
-    printing::newline();
+use std::io;
+
+fn print_line(rt: &impl Print, length: usize, s: usize, k: [u8; 24]) -> io::Result<()> {
+    printing::word(rt, b"constant ")?;
+    printing::decimal(rt, length as u64)?;
+    printing::space(rt)?;
+    printing::decimal(rt, s as u64)?;
+    printing::space(rt)?;
+    printing::hex_bytes(rt, printing::first(&k, length))?;
+    printing::newline(rt)
 }
 
-fn line(t: usize, s: usize)
+fn line(rt: &impl Print, t: usize, s: usize) -> io::Result<()>
     requires { Sized t }
 {
     let mut k = [0u8; 24];
     constants::add_constant(t, s, &mut k);
-    print_line(6 * t, s, k);
+    print_line(rt, 6 * t, s, k)
 }
 
 // The steps 0 to 6t + 1, and numbers far above.
-fn size_lines(t: usize)
+fn size_lines(rt: &impl Print, t: usize) -> io::Result<()>
     requires { Sized t }
 {
-    let end = 6 * t + 2;
-    let mut s: usize = 0;
-    while s < end {
-        line(t, s);
-        s += 1;
+    for s in 0..6 * t + 2 {
+        line(rt, t, s)?;
     }
-    line(t, 33);
-    line(t, 43);
-    line(t, 44);
-    line(t, 65);
-    line(t, 257);
-    line(t, 65537);
-    line(t, 4294967295);
+    line(rt, t, 33)?;
+    line(rt, t, 43)?;
+    line(rt, t, 44)?;
+    line(rt, t, 65)?;
+    line(rt, t, 257)?;
+    line(rt, t, 65537)?;
+    line(rt, t, 4294967295)
 }
 
-fn main() {
-    size_lines(2);
-    size_lines(3);
-    size_lines(4);
+fn main(rt: HostRuntime) -> io::Result<()> {
+    size_lines(&rt, 2)?;
+    size_lines(&rt, 3)?;
+    size_lines(&rt, 4)
 }

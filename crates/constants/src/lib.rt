@@ -1,5 +1,7 @@
 // The constant of every step of the key schedule, added to a stage in place. A stage of 2t columns stands in 24 bytes; what stands past it stays.
 
+#![tactic(auto)]
+
 ghost use Rattle.std.specs.Prelude.{◌≡◌, ◌++◌, ◌*◌, ◌<◌, length, drop};
 ghost use Rattle.stages.specs.Columns.{plus, padded};
 ghost use Rattle.stages.specs.Stages.{constant, closing_sum, step_constant};

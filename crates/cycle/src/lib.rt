@@ -1,6 +1,8 @@
 // The stages as a cycle: the number after another and the one before it, around the turn of 6t stages, and a step undone. A stage of 2t columns
 // stands in 24 bytes and is stepped there; what stands past it stays.
 
+#![tactic(auto)]
+
 ghost use Rattle.std.specs.Prelude.{◌≡◌, ◌++◌, ◌*◌, ◌<◌, length, drop};
 ghost use Rattle.sizes.specs.Sizes.{turn, Sized};
 ghost use Rattle.stages.specs.Stages.{stage_before};

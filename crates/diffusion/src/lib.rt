@@ -1,5 +1,7 @@
 // The diffusion layer: each column of a state multiplied by the matrix, by value. The work is done a row of four columns at a time.
 
+#![tactic(auto)]
+
 ghost use Rattle.std.specs.Prelude.{◌≡◌, [], ◌∷◌};
 ghost use Rattle.numbers.specs.Numbers.{four_bytes};
 ghost use Rattle.layers.specs.Layers.{diffused};

@@ -1,5 +1,7 @@
 // The engine: the whole enciphering of a block under a lent subkey list, whether a key gives the list or not.
 
+#![tactic(auto)]
+
 ghost use Rattle.std.specs.Prelude.{◌≡◌};
 ghost use Rattle.refusal.specs.Reasons.{outcome_number};
 ghost use Rattle.refusal.specs.Tries.{after};

@@ -1,5 +1,7 @@
 // Multiplication of a byte by the constant that the key schedule's matrix needs.
 
+#![tactic(auto)]
+
 ghost use Rattle.std.specs.Prelude.{◌≡◌};
 ghost use Rattle.field.specs.Field.{times, cube_root};
 

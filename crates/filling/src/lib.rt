@@ -1,6 +1,8 @@
 // A key's subkey list written to lent bytes, twelve bytes a subkey. The key's stage is carried along; each subkey is written as its stage is
 // reached.
 
+#![tactic(auto)]
+
 ghost use Rattle.std.specs.Prelude.{◌≡◌, cond, ◌++◌, ◌+◌, ◌*◌, ltb, length, drop};
 ghost use Rattle.layers.specs.Layers.{diffused};
 ghost use Rattle.rounds.specs.Rounds.{turned};

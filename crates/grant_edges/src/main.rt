@@ -2,62 +2,65 @@
 // no leave to write was left alone. The rows have each reason for refusing alone, each two that can hold together, and both sides of every
 // limit (tools/expected-grants).
 
+#![tactic(auto)]
+
 use grant::Verdict;
 use refusal::Outcome;
 use roll::Roll;
 use roll_changes::Changed;
+use std::io;
 
 const MARK: u8 = 165;
 
-fn count(n: u16) {
-    printing::number(n as u64);
+fn count(rt: &impl Print, n: u16) -> io::Result<()> {
+    printing::number(rt, n as u64)
 }
 
-fn outcome(o: Outcome) -> u32 {
+fn outcome(rt: &impl Print, o: Outcome) -> io::Result<u32> {
     let n = refusal::outcome_number(o);
-    printing::number(n as u64);
-    n
+    printing::number(rt, n as u64)?;
+    Ok(n)
 }
 
-fn verdict(v: Verdict) {
+fn verdict(rt: &impl Print, v: Verdict) -> io::Result<()> {
     match v {
         Verdict::Opens(g) => {
             let right = g.right;
-            printing::number(0);
-            printing::number(g.contractor as u64);
-            printing::number(rights::right_number(right) as u64);
+            printing::number(rt, 0)?;
+            printing::number(rt, g.contractor as u64)?;
+            printing::number(rt, rights::right_number(right) as u64)?;
         }
         Verdict::Refused(reason) => {
-            printing::number(refusal::reason_number(reason) as u64);
-            printing::word(b" 0 0");
+            printing::number(rt, refusal::reason_number(reason) as u64)?;
+            printing::word(rt, b" 0 0")?;
         }
     }
-    printing::newline();
+    printing::newline(rt)
 }
 
 // Contractors 1, 2 and 200 have the count that is read, and everyone else 0.
-fn echo_counts() -> [u16; 200] {
-    let count = (printing::echo() % 65536) as u16;
+fn echo_counts(rt: &(impl Print + Input)) -> io::Result<[u16; 200]> {
+    let count = (printing::echo(rt)? % 65536) as u16;
     let mut counts = [0u16; 200];
     counts[0] = count;
     counts[1] = count;
     counts[199] = count;
-    counts
+    Ok(counts)
 }
 
-fn echo_figure() -> u8 {
-    (printing::echo() % 256) as u8
+fn echo_figure(rt: &(impl Print + Input)) -> io::Result<u8> {
+    Ok((printing::echo(rt)? % 256) as u8)
 }
 
 // A roll to be changed: contractors 1, 2 and 200 have the figure that is read, and everyone else that of an empty one.
-fn echo_roll() -> Roll {
-    let counts = echo_counts();
-    let figure = echo_figure();
+fn echo_roll(rt: &(impl Print + Input)) -> io::Result<Roll> {
+    let counts = echo_counts(rt)?;
+    let figure = echo_figure(rt)?;
     let mut rights = [1u8; 200];
     rights[0] = figure;
     rights[1] = figure;
     rights[199] = figure;
-    Roll { counts, rights }
+    Ok(Roll { counts, rights })
 }
 
 // One contractor has a figure, and everyone else one that means the other right.
@@ -80,58 +83,58 @@ struct Looked {
     contractor: u32,
 }
 
-fn echo_looked() -> Looked {
-    let counts = echo_counts();
-    let figure = echo_figure();
-    let contractor = printing::echo_u32();
+fn echo_looked(rt: &(impl Print + Input)) -> io::Result<Looked> {
+    let counts = echo_counts(rt)?;
+    let figure = echo_figure(rt)?;
+    let contractor = printing::echo_u32(rt)?;
     let rights = rights_with(contractor, figure);
-    Looked {
+    Ok(Looked {
         roll: Roll { counts, rights },
         contractor,
-    }
+    })
 }
 
-fn figure(n: u8) {
-    printing::number(n as u64);
+fn figure(rt: &impl Print, n: u8) -> io::Result<()> {
+    printing::number(rt, n as u64)
 }
 
 // The counts of contractors 1, 2 and 200 after a call, and then their figures.
-fn changed(r: Changed) {
+fn changed(rt: &impl Print, r: Changed) -> io::Result<()> {
     let o = r.outcome;
     let after = r.roll;
     let counts = after.counts;
     let rights = after.rights;
-    outcome(o);
-    count(counts[0]);
-    count(counts[1]);
-    count(counts[199]);
-    figure(rights[0]);
-    figure(rights[1]);
-    figure(rights[199]);
-    printing::newline();
+    outcome(rt, o)?;
+    count(rt, counts[0])?;
+    count(rt, counts[1])?;
+    count(rt, counts[199])?;
+    figure(rt, rights[0])?;
+    figure(rt, rights[1])?;
+    figure(rt, rights[199])?;
+    printing::newline(rt)
 }
 
-fn enter_line() {
-    printing::word(b"enter");
-    let roll = echo_roll();
-    let c = printing::echo_u32();
-    let right = printing::echo_u32();
-    changed(roll_changes::enter(roll, c, right));
+fn enter_line(rt: &(impl Print + Input)) -> io::Result<()> {
+    printing::word(rt, b"enter")?;
+    let roll = echo_roll(rt)?;
+    let c = printing::echo_u32(rt)?;
+    let right = printing::echo_u32(rt)?;
+    changed(rt, roll_changes::enter(roll, c, right))
 }
 
-fn right_line() {
-    printing::word(b"right");
-    let roll = echo_roll();
-    let c = printing::echo_u32();
-    let right = printing::echo_u32();
-    changed(roll_changes::change_right(roll, c, right));
+fn right_line(rt: &(impl Print + Input)) -> io::Result<()> {
+    printing::word(rt, b"right")?;
+    let roll = echo_roll(rt)?;
+    let c = printing::echo_u32(rt)?;
+    let right = printing::echo_u32(rt)?;
+    changed(rt, roll_changes::change_right(roll, c, right))
 }
 
-fn withdraw_line() {
-    printing::word(b"withdraw");
-    let roll = echo_roll();
-    let c = printing::echo_u32();
-    changed(roll_changes::withdraw(roll, c));
+fn withdraw_line(rt: &(impl Print + Input)) -> io::Result<()> {
+    printing::word(rt, b"withdraw")?;
+    let roll = echo_roll(rt)?;
+    let c = printing::echo_u32(rt)?;
+    changed(rt, roll_changes::withdraw(roll, c))
 }
 
 // The size block that stands in a grant, which a key with a round count deciphers.
@@ -142,16 +145,16 @@ fn named_block(key: &[u8], rounds: u32, grant: &[u8]) -> u32 {
 }
 
 // An issue, and the size block that stands in what was issued.
-fn issue_line() {
+fn issue_line(rt: &(impl Print + Input)) -> io::Result<()> {
     let key = [7u8; 32];
     let mut out = [MARK; 16];
-    printing::word(b"issue");
-    let k = printing::echo();
-    let r = printing::echo_u32();
-    let o = printing::echo();
-    let looked = echo_looked();
-    let asked = printing::echo_u32();
-    let right = printing::echo_u32();
+    printing::word(rt, b"issue")?;
+    let k = printing::echo(rt)?;
+    let r = printing::echo_u32(rt)?;
+    let o = printing::echo(rt)?;
+    let looked = echo_looked(rt)?;
+    let asked = printing::echo_u32(rt)?;
+    let right = printing::echo_u32(rt)?;
     let answer = issuing::issue(
         printing::first(&key, k),
         r,
@@ -161,14 +164,14 @@ fn issue_line() {
         right,
         printing::first_mut(&mut out, o),
     );
-    let n = outcome(answer);
+    let n = outcome(rt, answer)?;
     let named = if n == 0 {
         named_block(printing::first(&key, k), r, printing::first(&out, 12))
     } else {
         0
     };
-    printing::number(named as u64);
-    printing::kept(&out, if n == 0 { 12 } else { 0 }, MARK);
+    printing::number(rt, named as u64)?;
+    printing::kept(rt, &out, if n == 0 { 12 } else { 0 }, MARK)
 }
 
 fn byte(n: usize) -> u8 {
@@ -176,13 +179,13 @@ fn byte(n: usize) -> u8 {
 }
 
 // Twelve plain bytes that are a grant of a contractor, or not quite: count, size block, right and mark are read.
-fn echo_plain(contractor: u32) -> [u8; 12] {
+fn echo_plain(rt: &(impl Print + Input), contractor: u32) -> io::Result<[u8; 12]> {
     let c = contractor as usize;
-    let n = printing::echo();
-    let b = printing::echo();
-    let r = printing::echo();
-    let m = printing::echo();
-    [
+    let n = printing::echo(rt)?;
+    let b = printing::echo(rt)?;
+    let r = printing::echo(rt)?;
+    let m = printing::echo(rt)?;
+    Ok([
         byte(c / 256),
         byte(c),
         byte(n / 256),
@@ -195,51 +198,54 @@ fn echo_plain(contractor: u32) -> [u8; 12] {
         byte(m / 65536),
         byte(m / 256),
         byte(m),
-    ]
+    ])
 }
 
 // A grant, enciphered under twelve bytes of the key with ten rounds, and checked. It is made without an issue, so that it can name size block 0.
-fn check_line() {
+fn check_line(rt: &(impl Print + Input)) -> io::Result<()> {
     let key = [7u8; 32];
     let mut grant = [0u8; 16];
-    printing::word(b"check");
-    let k = printing::echo();
-    let r = printing::echo_u32();
-    let l = printing::echo();
-    let asked = printing::echo_u32();
-    let right = printing::echo_u32();
-    let looked = echo_looked();
-    let plain = echo_plain(looked.contractor);
+    printing::word(rt, b"check")?;
+    let k = printing::echo(rt)?;
+    let r = printing::echo_u32(rt)?;
+    let l = printing::echo(rt)?;
+    let asked = printing::echo_u32(rt)?;
+    let right = printing::echo_u32(rt)?;
+    let looked = echo_looked(rt)?;
+    let plain = echo_plain(rt, looked.contractor)?;
     cipher::encipher(printing::first(&key, 12), 10, &plain, &mut grant);
-    verdict(checking::check(
-        printing::first(&key, k),
-        r,
-        looked.roll,
-        printing::first(&grant, l),
-        asked,
-        right,
-    ));
+    verdict(
+        rt,
+        checking::check(
+            printing::first(&key, k),
+            r,
+            looked.roll,
+            printing::first(&grant, l),
+            asked,
+            right,
+        ),
+    )
 }
 
-fn line(call: u64) {
+fn line(rt: &(impl Print + Input), call: u64) -> io::Result<()> {
     if call == 1 {
-        enter_line();
+        enter_line(rt)
     } else if call == 2 {
-        right_line();
+        right_line(rt)
     } else if call == 3 {
-        withdraw_line();
+        withdraw_line(rt)
     } else if call == 4 {
-        issue_line();
+        issue_line(rt)
     } else {
-        check_line();
+        check_line(rt)
     }
 }
 
-fn main() {
-    let rows = printing::read();
-    let mut i: u64 = 0;
-    while i < rows {
-        line(printing::read());
-        i += 1;
+fn main(rt: HostRuntime) -> io::Result<()> {
+    let rows = printing::read(&rt)?;
+    for _ in 0..rows {
+        let call = printing::read(&rt)?;
+        line(&rt, call)?;
     }
+    Ok(())
 }

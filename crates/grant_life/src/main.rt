@@ -2,13 +2,16 @@
 // demoted, and refused for ever after the contractor's withdrawal. Prints each call's answer in the format of the independent program's `grants`
 // (reference/README.md).
 
+#![tactic(auto)]
+
 use grant::Verdict;
 use refusal::Outcome;
 use roll::Roll;
 use roll_changes::Changed;
+use std::io;
 
 // What a life is about.
-#[derive(Drop)]
+#[derive(Clone, Copy)]
 pub struct Life {
     pub rounds: u32,
     pub contractor: u32,
@@ -23,60 +26,66 @@ pub struct Kept {
     pub grant: [u8; 12],
 }
 
-fn number(n: u32) {
-    printing::space();
-    printing::decimal(n as u64);
+fn number(rt: &impl Print, n: u32) -> io::Result<()> {
+    printing::space(rt)?;
+    printing::decimal(rt, n as u64)
 }
 
-fn outcome(o: Outcome) -> u32 {
+fn outcome(rt: &impl Print, o: Outcome) -> io::Result<u32> {
     let n = refusal::outcome_number(o);
-    number(n);
-    n
+    number(rt, n)?;
+    Ok(n)
 }
 
-fn verdict(v: Verdict) {
+fn verdict(rt: &impl Print, v: Verdict) -> io::Result<()> {
     match v {
         Verdict::Opens(g) => {
             let right = g.right;
-            number(0);
-            number(g.contractor);
-            number(rights::right_number(right));
+            number(rt, 0)?;
+            number(rt, g.contractor)?;
+            number(rt, rights::right_number(right))?;
         }
         Verdict::Refused(reason) => {
-            number(refusal::reason_number(reason));
-            number(0);
-            number(0);
+            number(rt, refusal::reason_number(reason))?;
+            number(rt, 0)?;
+            number(rt, 0)?;
         }
     }
-    printing::newline();
+    printing::newline(rt)
 }
 
-fn changed(r: Changed) -> Roll {
+fn changed(rt: &impl Print, r: Changed) -> io::Result<Roll> {
     let o = r.outcome;
     let after = r.roll;
-    outcome(o);
-    printing::newline();
-    after
+    outcome(rt, o)?;
+    printing::newline(rt)?;
+    Ok(after)
 }
 
-fn enter_line(l: Life, roll: Roll) -> Roll {
-    printing::word(b"enter");
-    number(l.right);
-    changed(roll_changes::enter(roll, l.contractor, l.right))
+fn enter_line(rt: &impl Print, l: Life, roll: Roll) -> io::Result<Roll> {
+    printing::word(rt, b"enter")?;
+    number(rt, l.right)?;
+    changed(rt, roll_changes::enter(roll, l.contractor, l.right))
 }
 
-fn right_line(l: Life, roll: Roll, highest: u32) -> Roll {
-    printing::word(b"right");
-    number(highest);
-    changed(roll_changes::change_right(roll, l.contractor, highest))
+fn right_line(rt: &impl Print, l: Life, roll: Roll, highest: u32) -> io::Result<Roll> {
+    printing::word(rt, b"right")?;
+    number(rt, highest)?;
+    changed(rt, roll_changes::change_right(roll, l.contractor, highest))
 }
 
-fn withdraw_line(l: Life, roll: Roll) -> Roll {
-    printing::word(b"withdraw");
-    changed(roll_changes::withdraw(roll, l.contractor))
+fn withdraw_line(rt: &impl Print, l: Life, roll: Roll) -> io::Result<Roll> {
+    printing::word(rt, b"withdraw")?;
+    changed(rt, roll_changes::withdraw(roll, l.contractor))
 }
 
-fn issue_line(key: &[u8], l: Life, roll: Roll, asked: u32) -> [u8; 12] {
+fn issue_line(
+    rt: &impl Print,
+    key: &[u8],
+    l: Life,
+    roll: Roll,
+    asked: u32,
+) -> io::Result<[u8; 12]> {
     let mut out = [0u8; 12];
     let o = issuing::issue(
         key,
@@ -87,111 +96,151 @@ fn issue_line(key: &[u8], l: Life, roll: Roll, asked: u32) -> [u8; 12] {
         asked,
         &mut out,
     );
-    printing::word(b"issue");
-    number(asked);
-    if outcome(o) == 0 {
-        printing::space();
-        printing::hex_bytes(&out);
+    printing::word(rt, b"issue")?;
+    number(rt, asked)?;
+    if outcome(rt, o)? == 0 {
+        printing::space(rt)?;
+        printing::hex_bytes(rt, &out)?;
     }
-    printing::newline();
-    out
+    printing::newline(rt)?;
+    Ok(out)
 }
 
 // A check for a right, for the life's size block.
-fn check_line(key: &[u8], l: Life, roll: Roll, grant: [u8; 12], asked: u32) {
-    printing::word(b"check");
-    number(asked);
-    verdict(checking::check(key, l.rounds, roll, &grant, l.size_block, asked));
+fn check_line(
+    rt: &impl Print,
+    key: &[u8],
+    l: Life,
+    roll: Roll,
+    grant: [u8; 12],
+    asked: u32,
+) -> io::Result<()> {
+    printing::word(rt, b"check")?;
+    number(rt, asked)?;
+    verdict(
+        rt,
+        checking::check(key, l.rounds, roll, &grant, l.size_block, asked),
+    )
 }
 
-fn next_block_line(key: &[u8], l: Life, roll: Roll, grant: [u8; 12]) {
+fn next_block_line(
+    rt: &impl Print,
+    key: &[u8],
+    l: Life,
+    roll: Roll,
+    grant: [u8; 12],
+) -> io::Result<()> {
     let next = ((l.size_block as u64 + 1) % 4294967296) as u32;
-    printing::word(b"check");
-    number(l.right);
-    verdict(checking::check(key, l.rounds, roll, &grant, next, l.right));
+    printing::word(rt, b"check")?;
+    number(rt, l.right)?;
+    verdict(
+        rt,
+        checking::check(key, l.rounds, roll, &grant, next, l.right),
+    )
 }
 
 // A grant with one bit of one byte changed.
-fn damaged_line(key: &[u8], l: Life, roll: Roll, grant: [u8; 12], at: usize) {
+fn damaged_line(
+    rt: &impl Print,
+    key: &[u8],
+    l: Life,
+    roll: Roll,
+    grant: [u8; 12],
+    at: usize,
+) -> io::Result<()> {
     let mut bytes = grant;
     let p = at % 12;
     bytes[p] = bytes[p] ^ 1;
-    printing::word(b"damaged");
-    number(p as u32);
-    verdict(checking::check(key, l.rounds, roll, &bytes, l.size_block, l.right));
+    printing::word(rt, b"damaged")?;
+    number(rt, p as u32)?;
+    verdict(
+        rt,
+        checking::check(key, l.rounds, roll, &bytes, l.size_block, l.right),
+    )
 }
 
-fn damaged_lines(key: &[u8], l: Life, roll: Roll, grant: [u8; 12]) {
-    let mut i: usize = 0;
-    while i < 12 {
-        damaged_line(key, l, roll, grant, i);
-        i += 1;
+fn damaged_lines(
+    rt: &impl Print,
+    key: &[u8],
+    l: Life,
+    roll: Roll,
+    grant: [u8; 12],
+) -> io::Result<()> {
+    for i in 0..12 {
+        damaged_line(rt, key, l, roll, grant, i)?;
     }
+    Ok(())
 }
 
-fn head_line(key: &[u8], l: Life) {
-    printing::word(b"life ");
-    printing::hex_bytes(key);
-    number(l.rounds);
-    number(l.contractor);
-    number(l.size_block);
-    number(l.right);
-    printing::newline();
+fn head_line(rt: &impl Print, key: &[u8], l: Life) -> io::Result<()> {
+    printing::word(rt, b"life ")?;
+    printing::hex_bytes(rt, key)?;
+    number(rt, l.rounds)?;
+    number(rt, l.contractor)?;
+    number(rt, l.size_block)?;
+    number(rt, l.right)?;
+    printing::newline(rt)
 }
 
 // Demoted, raised and demoted again: what becomes of a grant from before, and of one that is issued while the right is overwriting. The
 // roll that is left has reading as the highest right.
-fn demotion_lines(key: &[u8], l: Life, roll: Roll, first: [u8; 12]) -> Kept {
-    let low = right_line(l, roll, 1);
-    check_line(key, l, low, first, 2);
-    check_line(key, l, low, first, 1);
-    issue_line(key, l, low, 2);
-    let high = right_line(l, low, 2);
-    check_line(key, l, high, first, l.right);
-    let grant = issue_line(key, l, high, 2);
-    check_line(key, l, high, grant, 2);
-    let roll = right_line(l, high, 1);
-    check_line(key, l, roll, grant, 2);
-    check_line(key, l, roll, grant, 1);
-    Kept { roll, grant }
+fn demotion_lines(
+    rt: &impl Print,
+    key: &[u8],
+    l: Life,
+    roll: Roll,
+    first: [u8; 12],
+) -> io::Result<Kept> {
+    let low = right_line(rt, l, roll, 1)?;
+    check_line(rt, key, l, low, first, 2)?;
+    check_line(rt, key, l, low, first, 1)?;
+    issue_line(rt, key, l, low, 2)?;
+    let high = right_line(rt, l, low, 2)?;
+    check_line(rt, key, l, high, first, l.right)?;
+    let grant = issue_line(rt, key, l, high, 2)?;
+    check_line(rt, key, l, high, grant, 2)?;
+    let roll = right_line(rt, l, high, 1)?;
+    check_line(rt, key, l, roll, grant, 2)?;
+    check_line(rt, key, l, roll, grant, 1)?;
+    Ok(Kept { roll, grant })
 }
 
 // From the first issue, which is refused, to the contractor's first grant.
-fn first_lines(key: &[u8], l: Life) -> Kept {
+fn first_lines(rt: &impl Print, key: &[u8], l: Life) -> io::Result<Kept> {
     let empty = roll::empty();
-    head_line(key, l);
-    issue_line(key, l, empty, l.right);
-    let refused = right_line(l, empty, 2);
-    let roll = enter_line(l, refused);
-    let grant = issue_line(key, l, roll, l.right);
+    head_line(rt, key, l)?;
+    issue_line(rt, key, l, empty, l.right)?;
+    let refused = right_line(rt, l, empty, 2)?;
+    let roll = enter_line(rt, l, refused)?;
+    let grant = issue_line(rt, key, l, roll, l.right)?;
     let other = if l.right == 1 { 2 } else { 1 };
-    check_line(key, l, roll, grant, l.right);
-    next_block_line(key, l, roll, grant);
-    check_line(key, l, roll, grant, other);
-    issue_line(key, l, roll, other);
-    Kept { roll, grant }
+    check_line(rt, key, l, roll, grant, l.right)?;
+    next_block_line(rt, key, l, roll, grant)?;
+    check_line(rt, key, l, roll, grant, other)?;
+    issue_line(rt, key, l, roll, other)?;
+    Ok(Kept { roll, grant })
 }
 
 // And on to the contractor's second standing.
-fn life_lines(key: &[u8], l: Life) {
-    let started = first_lines(key, l);
+fn life_lines(rt: &impl Print, key: &[u8], l: Life) -> io::Result<()> {
+    let started = first_lines(rt, key, l)?;
     let first = started.grant;
-    let low = demotion_lines(key, l, started.roll, first);
+    let low = demotion_lines(rt, key, l, started.roll, first)?;
     let high = low.grant;
-    let r1 = right_line(l, low.roll, 3);
-    let r2 = enter_line(l, r1);
-    let r3 = withdraw_line(l, r2);
-    check_line(key, l, r3, first, l.right);
-    let r4 = withdraw_line(l, r3);
-    let r5 = right_line(l, r4, 1);
-    let r6 = enter_line(l, r5);
-    check_line(key, l, r6, first, l.right);
-    check_line(key, l, r6, high, 2);
-    let second = issue_line(key, l, r6, l.right);
-    check_line(key, l, r6, second, l.right);
-    check_line(key, l, r6, first, l.right);
-    check_line(key, l, r6, second, 2);
-    damaged_lines(key, l, r6, second);
+    let r1 = right_line(rt, l, low.roll, 3)?;
+    let r2 = enter_line(rt, l, r1)?;
+    let r3 = withdraw_line(rt, l, r2)?;
+    check_line(rt, key, l, r3, first, l.right)?;
+    let r4 = withdraw_line(rt, l, r3)?;
+    let r5 = right_line(rt, l, r4, 1)?;
+    let r6 = enter_line(rt, l, r5)?;
+    check_line(rt, key, l, r6, first, l.right)?;
+    check_line(rt, key, l, r6, high, 2)?;
+    let second = issue_line(rt, key, l, r6, l.right)?;
+    check_line(rt, key, l, r6, second, l.right)?;
+    check_line(rt, key, l, r6, first, l.right)?;
+    check_line(rt, key, l, r6, second, 2)?;
+    damaged_lines(rt, key, l, r6, second)
 }
 
 // A number of four bytes, big end first.
@@ -200,7 +249,7 @@ fn number_of(a: u8, b: u8, c: u8, d: u8) -> u32 {
 }
 
 // A key, a contractor, a size block and a right from the generator.
-fn one_life(x: u64, key: &mut [u8], rounds: u32) -> u64 {
+fn one_life(rt: &impl Print, x: u64, key: &mut [u8], rounds: u32) -> io::Result<u64> {
     let mut drawn = [0u8; 6];
     let x1 = printing::draw(x, key);
     let x2 = printing::draw(x1, &mut drawn);
@@ -208,6 +257,7 @@ fn one_life(x: u64, key: &mut [u8], rounds: u32) -> u64 {
     let who = number_of(0, 0, 0, drawn[0]);
     let what = number_of(0, 0, 0, drawn[5]);
     life_lines(
+        rt,
         key,
         Life {
             rounds,
@@ -215,37 +265,37 @@ fn one_life(x: u64, key: &mut [u8], rounds: u32) -> u64 {
             size_block,
             right: 1 + what % 2,
         },
-    );
-    x2
+    )?;
+    Ok(x2)
 }
 
-fn life_of(x: u64, length: usize, rounds: u32) -> u64 {
+fn life_of(rt: &impl Print, x: u64, length: usize, rounds: u32) -> io::Result<u64> {
     if length == 12 {
         let mut key = [0u8; 12];
-        return one_life(x, &mut key, rounds);
+        return one_life(rt, x, &mut key, rounds);
     }
     if length == 18 {
         let mut key = [0u8; 18];
-        return one_life(x, &mut key, rounds);
+        return one_life(rt, x, &mut key, rounds);
     }
     let mut key = [0u8; 24];
-    one_life(x, &mut key, rounds)
+    one_life(rt, x, &mut key, rounds)
 }
 
 // Four lives for each round count from least to most.
-fn size_lines(x: u64, length: usize, least: u32, most: u32) -> u64 {
+fn size_lines(rt: &impl Print, x: u64, length: usize, least: u32, most: u32) -> io::Result<u64> {
     let mut now = x;
-    let mut i: u32 = least % 32 * 4;
-    while i < most % 32 * 4 + 4 {
-        let next = life_of(now, length, i / 4);
-        now = next;
-        i += 1;
+    for rounds in least..=most {
+        for _ in 0..4 {
+            now = life_of(rt, now, length, rounds)?;
+        }
     }
-    now
+    Ok(now)
 }
 
-fn main() {
-    let x1 = size_lines(1, 12, 10, 11);
-    let x2 = size_lines(x1, 18, 14, 17);
-    size_lines(x2, 24, 18, 23);
+fn main(rt: HostRuntime) -> io::Result<()> {
+    let x1 = size_lines(&rt, 1, 12, 10, 11)?;
+    let x2 = size_lines(&rt, x1, 18, 14, 17)?;
+    size_lines(&rt, x2, 24, 18, 23)?;
+    Ok(())
 }

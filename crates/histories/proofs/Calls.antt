@@ -6,7 +6,7 @@ use Prim.Native.Nat.{ℕ, zero, suc, ◌-◌, ◌≤◌, ◌<◌}
 use native.Mathlib.Omega.{arith}
 use lib.Dec.{lit<}
 use lib.ListN.{get_or, set, replicate, length-set, length-replicate}
-use borrow.Author.Tests.{ltb-true, not_true}
+use borrow.Author.Tests.{ltb-true, not-true}
 use Rattle.basics.proofs.Bytes.{repeated-bytes, set-bytes}
 use Rattle.refusal.specs.Tries.{answered}
 use Rattle.refusal.proofs.Ladder.{all_pass}
@@ -32,7 +32,7 @@ pub record Entering (roll : Roll) (c right : ℕ) : Type 0 where
 pub entering : (roll : Roll) (c right : ℕ) → enter_number roll c right ≡ 0 → Entering roll c right
 entering roll c right e =
     let h = all_pass (enter_tries c right (count_of roll c)) refl e in
-    record { contractor = h.0; given = h.1.0; out = not_true _ h.1.1.0; below = ltb-true _ _ h.1.1.1.0 }
+    record { contractor = h.0; given = h.1.0; out = not-true _ h.1.1.0; below = ltb-true _ _ h.1.1.1.0 }
 
 pub record Withdrawing (roll : Roll) (c : ℕ) : Type 0 where
   pub contractor : is_contractor c ≡ true

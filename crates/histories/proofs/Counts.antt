@@ -15,7 +15,7 @@ use Rattle.roll_changes.specs.Changes.{enter_number, entered_roll, withdraw_trie
 use Rattle.roll.proofs.Contractors.{a_standing, is_standing}
 use Rattle.roll.proofs.Entries.{counts_kept}
 use Rattle.histories.specs.Histories.{Change, enter, change, withdraw, contractor_of, number_of, changed, roll_after, Withdrawn, here, later}
-use Rattle.histories.specs.Histories.{Withdraws, now_asked, asked-later, Merge, left, right, IsRoll}
+use Rattle.histories.specs.Histories.{Withdraws, now_asked, asked-later, Merge, none, left, right, IsRoll}
 use Rattle.histories.proofs.Calls.{entering, withdrawing, changing, changed_either, changed_grows, changed_other, changed-own, changed_roll_lem}
 
 -- ---- one call
@@ -122,11 +122,13 @@ stays_once (withdraw d) roll c e s n =
 
 -- ---- what either room asks, the roll sees
 pub left_seen : {c : ℕ} {xs ys zs : List Change} → Merge xs ys zs → Withdraws c xs → Withdraws c zs
+left_seen none w = elim w [ ]
 left_seen (left m) now_asked = now_asked
 left_seen (left m) (asked-later w) = asked-later (left_seen m w)
 left_seen (right m) w = asked-later (left_seen m w)
 
 pub right_seen : {c : ℕ} {xs ys zs : List Change} → Merge xs ys zs → Withdraws c ys → Withdraws c zs
+right_seen none w = elim w [ ]
 right_seen (right m) now_asked = now_asked
 right_seen (right m) (asked-later w) = asked-later (right_seen m w)
 right_seen (left m) w = asked-later (right_seen m w)

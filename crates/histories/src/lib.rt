@@ -1,1 +1,3 @@
 // No code: histories of a roll, in specs/ and proofs/.
+
+#![tactic(auto)]

@@ -1,6 +1,8 @@
 // The key holder: one stage of a key, by value; which holders are whole, and steps on them. The calls that answer a holder stand in crates of
 // their own.
 
+#![tactic(auto)]
+
 ghost use Rattle.std.specs.Prelude.{◌≡◌, true, length};
 ghost use Rattle.basics.specs.Repeated.{repeated};
 ghost use Rattle.holder.specs.Holder.{holding, whole, blank, stepped};
@@ -9,7 +11,7 @@ use basics::both;
 use refusal::Outcome;
 
 // A key's length, a stage's number and its bytes, with zeros past the key's length.
-#[derive(Drop)]
+#[derive(Clone, Copy)]
 pub struct Holder {
     pub length: usize,
     pub number: usize,
@@ -17,14 +19,14 @@ pub struct Holder {
 }
 
 // The direction of a step or a walk.
-#[derive(Drop)]
+#[derive(Clone, Copy)]
 pub enum Way {
     Forward,
     Back,
 }
 
 // What making a holder, giving a stage straight from the key, and a step answer.
-#[derive(Drop)]
+#[derive(Clone, Copy)]
 pub struct HolderAnswer {
     pub outcome: Outcome,
     pub holder: Holder,

@@ -37,7 +37,10 @@ broken_lent lent e =
     let s : holder_number h ≡ 24 = first_holds _ [] e in
     let w : (d : ℕ) → walk_number h d ≡ 24 = λ d. first_holds _ _ e in
     record {
-      steps = λ way. (s, ap (λ (n : ℕ). written n (holder_bytes (step_holder way h)) lent) s ∙ sym (kept 24 (holder_bytes (step_holder way h)) lent (omega arith)));
+      steps = λ way. (
+        s,
+        ap (λ (n : ℕ). written n (holder_bytes (step_holder way h)) lent) s ∙ sym (kept 24 (holder_bytes (step_holder way h)) lent (omega arith)),
+      );
       walks = λ d. (
         ap (λ (n : ℕ). walk_code n (walk_steps h d) (walk_way h d)) (w d),
         ap (λ (n : ℕ). written n (holder_bytes (walk_holder h d)) lent) (w d) ∙ sym (kept 24 (holder_bytes (walk_holder h d)) lent (omega arith)),

@@ -1,1 +1,3 @@
 // No code: any list of C calls on a lent key holder, in specs/ and proofs/.
+
+#![tactic(auto)]

@@ -1,5 +1,7 @@
 // A key holder in lent bytes, made and stepped: what the C calls of these names do.
 
+#![tactic(auto)]
+
 ghost use Rattle.std.specs.Prelude.{◌≡◌};
 ghost use Rattle.holder.specs.declared.Way.TheVariants.{Forward, Back};
 ghost use Rattle.holder_calls.specs.HolderCalls.{make_call_number, make_call_output, step_call_number, step_call_holder};

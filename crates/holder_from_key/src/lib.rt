@@ -1,5 +1,7 @@
 // Holders from a key: one at stage 0, and one at any stage, given straight.
 
+#![tactic(auto)]
+
 ghost use Rattle.std.specs.Prelude.{◌≡◌, true, ◌<◌, length};
 ghost use Rattle.refusal.specs.Reasons.{outcome_number};
 ghost use Rattle.refusal.specs.Tries.{first};

@@ -1,5 +1,7 @@
 // Calls on a holder that step it by one, or ask for the subkey of the stage that it holds.
 
+#![tactic(auto)]
+
 ghost use Rattle.std.specs.Prelude.{◌≡◌};
 ghost use Rattle.refusal.specs.Reasons.{outcome_number};
 ghost use Rattle.holder.specs.declared.Way.TheVariants.{Forward, Back};

@@ -1,5 +1,7 @@
 // The subkey of a key holder in lent bytes: what the C call of this name does.
 
+#![tactic(auto)]
+
 ghost use Rattle.std.specs.Prelude.{◌≡◌};
 ghost use Rattle.holder_subkey_call.specs.SubkeyCall.{held_subkey_number, held_subkey_output};
 

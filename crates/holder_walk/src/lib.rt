@@ -1,5 +1,7 @@
 // A holder walked to a stage.
 
+#![tactic(auto)]
+
 ghost use Rattle.std.specs.Prelude.{◌≡◌, ◌*◌, ◌≤◌};
 ghost use Rattle.refusal.specs.Reasons.{outcome_number};
 ghost use Rattle.holder.specs.Holder.{t_held};

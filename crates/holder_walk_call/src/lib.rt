@@ -1,5 +1,7 @@
 // A key holder in lent bytes walked to a stage: what the C call of this name does.
 
+#![tactic(auto)]
+
 ghost use Rattle.std.specs.Prelude.{◌≡◌, ◌≤◌};
 ghost use Rattle.holder_walk_call.specs.WalkCall.{walk_code, walk_call_code, walk_call_holder};
 

@@ -1,5 +1,7 @@
 // The inverse of the linear step: the column rule with c + 1, then row 1 rotated one column right and row 2 one column left.
 
+#![tactic(auto)]
+
 ghost use Rattle.std.specs.Prelude.{◌≡◌, cond, ◌++◌, ◌+◌, ◌*◌, ◌≤◌, ◌<◌, ltb, length, drop};
 ghost use Rattle.field.specs.Field.{◌⊕◌, times, cube_root};
 ghost use Rattle.layers.specs.State.{column};

@@ -8,7 +8,8 @@ use Rattle.issuing.specs.Issuing.{wanted_tries, issued_grant}
 
 abbrev pub issue_call_tries : List ℕ → ℕ → List ℕ → ℕ → ℕ → ℕ → List ℕ → List Try
 issue_call_tries key rounds roll contractor size_block right out =
-    (settings_tries (length key) rounds ++ roll_tries (length roll)) ++ wanted_tries (length out) contractor size_block right (entry_of (roll_of roll) contractor)
+    (settings_tries (length key) rounds ++ roll_tries (length roll)) ++ wanted_tries (length out) contractor size_block right (entry_of
+    (roll_of roll) contractor)
 
 abbrev pub issue_call_number : List ℕ → ℕ → List ℕ → ℕ → ℕ → ℕ → List ℕ → ℕ
 issue_call_number key rounds roll contractor size_block right out = first (issue_call_tries key rounds roll contractor size_block right out)

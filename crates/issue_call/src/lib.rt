@@ -1,5 +1,7 @@
 // Issuing a grant on a roll's bytes: what the C call of this name does.
 
+#![tactic(auto)]
+
 ghost use Rattle.std.specs.Prelude.{◌≡◌};
 ghost use Rattle.issue_call.specs.IssueCall.{issue_call_number, issue_call_output};
 

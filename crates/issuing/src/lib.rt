@@ -1,5 +1,7 @@
 // Issuing a grant, in parts that calls on a roll by value and on its bytes share.
 
+#![tactic(auto)]
+
 ghost use Rattle.std.specs.Prelude.{◌≡◌, ◌++◌, length, drop};
 ghost use Rattle.refusal.specs.Reasons.{outcome_number};
 ghost use Rattle.refusal.specs.Tries.{after};

@@ -10,13 +10,15 @@ use Rattle.grant.specs.Grants.{plain_grant, contractor_in, count_in, size_block_
 use Rattle.judging.specs.KnownAnswers.{known_answers, zero_answers}
 
 pub known_answers_lem : Hold known_answers
-unfolding known_answers first answered empty_roll count_of figure_of in_standing covers highest within_highest contractor_in count_in size_block_in is_marked is_grant
+unfolding known_answers first answered empty_roll count_of figure_of in_standing covers highest within_highest contractor_in count_in size_block_in
+    is_marked is_grant
 known_answers_lem =
     refl & refl & refl & refl & refl & refl & refl & refl & refl & refl & refl & refl & refl
     & refl & refl & refl & refl & refl & refl & refl & refl & refl & refl & refl & refl & tt
 
 pub zero_answers_lem : Hold zero_answers
-unfolding zero_answers first answered is_size_block in_standing covers highest within_highest plain_grant contractor_in count_in size_block_in is_marked is_grant
+unfolding zero_answers first answered is_size_block in_standing covers highest within_highest plain_grant contractor_in count_in size_block_in is_marked
+    is_grant
 zero_answers_lem =
     refl & refl & refl & refl & refl & refl & refl & refl & refl & refl & refl & refl & refl
     & refl & refl & refl & refl & refl & refl & refl & refl & refl & refl & refl & refl & refl

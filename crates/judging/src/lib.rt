@@ -1,6 +1,8 @@
 // What is tried of a grant that is checked: the input, and the grant's plain bytes. The check on a roll by value, the one on its bytes, and
 // whatever checks several grants are made of these parts.
 
+#![tactic(auto)]
+
 ghost use Rattle.std.specs.Prelude.{◌≡◌};
 ghost use Rattle.refusal.specs.Reasons.{outcome_number};
 ghost use Rattle.refusal.specs.Tries.{first, after};

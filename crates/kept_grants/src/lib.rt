@@ -1,5 +1,7 @@
 // A grant that a plotter box keeps while others change the roll: issued, then a list of calls on the roll's bytes, then checked.
 
+#![tactic(auto)]
+
 ghost use Rattle.std.specs.Prelude.{◌≡◌};
 ghost use Rattle.issue_call.specs.IssueCall.{issue_call_output};
 ghost use Rattle.call_claims.specs.CallHistories.{called, bytes_after};

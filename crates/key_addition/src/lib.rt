@@ -1,5 +1,7 @@
 // The key addition: a subkey added to a state, by value.
 
+#![tactic(auto)]
+
 ghost use Rattle.std.specs.Prelude.{◌≡◌, get_or};
 ghost use Rattle.std.specs.Int.Bits.{bit_xor};
 ghost use Rattle.layers.specs.State.{column};

@@ -81,7 +81,8 @@ module _ (key : List ℕ) (h : key_length (length key) ≡ true) (b : AreBytes k
   -- the list at the start of some bytes is read as the list
   pub read_list : (d : Direction) (R : ℕ) (rest : List ℕ) → list_states (take (12 * (R + 1)) (list_bytes (list_for d key R) ++ rest)) ≡ list_for d key R
   read_list d R rest =
-      ap list_states (take_at (list_bytes (list_for d key R)) rest (12 * (R + 1)) (length-prepared d key R)) ∙ list_bytes_lem (list_for d key R) (states_for d R)
+      ap list_states (take_at (list_bytes (list_for d key R)) rest (12 * (R + 1)) (length-prepared d key R))
+      ∙ list_bytes_lem (list_for d key R) (states_for d R)
 
   pub read_back : (d : Direction) (R : ℕ) (rest : List ℕ) (a : State)
       → enciphered (list_states (take (12 * (R + 1)) (list_bytes (list_for d key R) ++ rest))) a ≡ enciphered (list_for d key R) a

@@ -1,5 +1,7 @@
 // Subkey lists of a key, for either direction: what they are and the laws of them, in specs/ and proofs/.
 
+#![tactic(auto)]
+
 // Which way a subkey list is to be used.
 #[derive(Drop)]
 pub enum Direction {

@@ -1,5 +1,7 @@
 // The settings of a page: two keys and a round count, tried in one place for every call that takes them.
 
+#![tactic(auto)]
+
 ghost use Rattle.std.specs.Prelude.{◌≡◌};
 ghost use Rattle.refusal.specs.Reasons.{outcome_number};
 ghost use Rattle.refusal.specs.Tries.{first};

@@ -1,5 +1,7 @@
 // The linear step of a stage of 2t columns, in place. A stage is kept in 24 bytes, and what stands past it stays.
 
+#![tactic(auto)]
+
 ghost use Rattle.std.specs.Prelude.{◌≡◌, cond, ◌++◌, ◌+◌, ◌*◌, ◌≤◌, ◌<◌, ltb, length, drop};
 ghost use Rattle.field.specs.Field.{◌⊕◌, times, cube_root};
 ghost use Rattle.sizes.specs.Sizes.{Sized};

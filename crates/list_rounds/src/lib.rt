@@ -1,5 +1,7 @@
 // The rounds over a subkey list in lent bytes, whether a key gives the list or not.
 
+#![tactic(auto)]
+
 ghost use Rattle.std.specs.Prelude.{◌≡◌, true, length};
 ghost use Rattle.rounds.specs.Rounds.{enciphered};
 ghost use Rattle.block_bytes.specs.Blocks.{list_states};

@@ -1,5 +1,7 @@
 // Preparing a key's subkey list in lent bytes.
 
+#![tactic(auto)]
+
 ghost use Rattle.std.specs.Prelude.{◌≡◌};
 ghost use Rattle.refusal.specs.Reasons.{outcome_number};
 ghost use Rattle.lists.specs.Lists.{prepare_number, prepare_output};

@@ -1,5 +1,7 @@
 // Numbers of two and four bytes, big end first, read from bytes and written as bytes.
 
+#![tactic(auto)]
+
 ghost use Rattle.std.specs.Prelude.{◌≡◌};
 ghost use Rattle.numbers.specs.Numbers.{two_from, four_from, two_bytes, four_bytes};
 

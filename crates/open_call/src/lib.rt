@@ -1,5 +1,7 @@
 // Opening a page, as the C call does it: one number of 64 bits for the answer.
 
+#![tactic(auto)]
+
 ghost use Rattle.std.specs.Prelude.{◌≡◌, ◌≤◌};
 ghost use Rattle.refusal.specs.Reasons.{outcome_number};
 ghost use Rattle.opening.specs.Opening.{open_output, open_scratch};

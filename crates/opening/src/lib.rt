@@ -1,5 +1,7 @@
 // Opening a page: what is tried before any work, the check, the unused bytes, and only then the payload to the output.
 
+#![tactic(auto)]
+
 ghost use Rattle.std.specs.Prelude.{◌≡◌, length};
 ghost use Rattle.refusal.specs.Reasons.{outcome_number};
 ghost use Rattle.refusal.specs.Tries.{first, written};

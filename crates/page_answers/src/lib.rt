@@ -1,5 +1,7 @@
 // What opening a page answers by value: whether it refused, and else the numbers of the page's header.
 
+#![tactic(auto)]
+
 ghost use Rattle.std.specs.Prelude.{◌≡◌, ◌≤◌, length};
 ghost use Rattle.refusal.specs.Reasons.{outcome_number};
 ghost use Rattle.refusal.specs.Tries.{answered};

@@ -1,5 +1,7 @@
 // What stands in a page: whether its check agrees, and the payload, which is written only where its unused bytes are zero.
 
+#![tactic(auto)]
+
 ghost use Rattle.std.specs.Prelude.{◌≡◌, cond, ◌++◌, ◌≤◌, length, drop};
 ghost use Rattle.rounds.specs.Rounds.{enciphered};
 ghost use Rattle.block_bytes.specs.Blocks.{list_states};

@@ -2,8 +2,11 @@
 // header's numbers, and what output and scratch hold after it. The rows have each reason for refusing alone, each two that can hold together, and
 // both sides of every limit (tools/expected-pages).
 
+#![tactic(auto)]
+
 use byte_slices::zeros_from;
 use printing::{all_marks, first, first_mut};
+use std::io;
 
 const MARK: u8 = 165;
 
@@ -79,14 +82,14 @@ fn is_written(out: &[u8], payload: &[u8; 492]) -> bool {
 }
 
 // What the output holds: what was to be written, or what stood there.
-fn tell_output(written: bool, kept: bool) {
-    printing::space();
+fn tell_output(rt: &impl Print, written: bool, kept: bool) -> io::Result<()> {
+    printing::space(rt)?;
     if kept {
-        printing::word(b"kept ");
+        printing::word(rt, b"kept ")
     } else if written {
-        printing::word(b"written ");
+        printing::word(rt, b"written ")
     } else {
-        printing::word(b"broken ");
+        printing::word(rt, b"broken ")
     }
 }
 
@@ -97,13 +100,13 @@ fn is_cleared(scratch: &[u8]) -> bool {
     false
 }
 
-fn tell_scratch(scratch: &[u8]) {
+fn tell_scratch(rt: &impl Print, scratch: &[u8]) -> io::Result<()> {
     if all_marks(scratch, 0, MARK) {
-        printing::word(b"kept\n");
+        printing::word(rt, b"kept\n")
     } else if is_cleared(scratch) {
-        printing::word(b"cleared\n");
+        printing::word(rt, b"cleared\n")
     } else {
-        printing::word(b"broken\n");
+        printing::word(rt, b"broken\n")
     }
 }
 
@@ -141,16 +144,16 @@ fn opens_again(k: usize, rounds: u32, size_block: u32, page: &[u8], used: usize)
     false
 }
 
-fn seal_line() {
-    printing::word(b"seal");
-    let k = printing::echo();
-    let l = printing::echo();
-    let second = second_bytes(printing::echo());
-    let rounds = printing::echo_u32();
-    let block = printing::echo_u32();
-    let used = printing::echo();
-    let s = printing::echo();
-    let o = printing::echo();
+fn seal_line(rt: &(impl Print + Input)) -> io::Result<()> {
+    printing::word(rt, b"seal")?;
+    let k = printing::echo(rt)?;
+    let l = printing::echo(rt)?;
+    let second = second_bytes(printing::echo(rt)?);
+    let rounds = printing::echo_u32(rt)?;
+    let block = printing::echo_u32(rt)?;
+    let used = printing::echo(rt)?;
+    let s = printing::echo(rt)?;
+    let o = printing::echo(rt)?;
     let mut scratch = [MARK; 640];
     let mut out = [MARK; 520];
     let answer = sealing::seal(
@@ -163,31 +166,32 @@ fn seal_line() {
         first_mut(&mut scratch, s),
         first_mut(&mut out, o),
     );
-    printing::number(refusal::outcome_number(answer) as u64);
+    printing::number(rt, refusal::outcome_number(answer) as u64)?;
     tell_output(
+        rt,
         opens_again(k, rounds, block, &out, used),
         all_marks(&out, 0, MARK),
-    );
-    tell_scratch(&scratch);
+    )?;
+    tell_scratch(rt, &scratch)
 }
 
-fn open_line() {
-    printing::word(b"open");
-    let k = printing::echo();
-    let l = printing::echo();
-    let second = second_bytes(printing::echo());
-    let rounds = printing::echo_u32();
-    let n = printing::echo();
-    let size_block = printing::echo_u32();
-    let count = printing::echo();
-    let pad = (printing::echo() % 256) as u8;
-    let sealed = payload(pad, printing::echo());
+fn open_line(rt: &(impl Print + Input)) -> io::Result<()> {
+    printing::word(rt, b"open")?;
+    let k = printing::echo(rt)?;
+    let l = printing::echo(rt)?;
+    let second = second_bytes(printing::echo(rt)?);
+    let rounds = printing::echo_u32(rt)?;
+    let n = printing::echo(rt)?;
+    let size_block = printing::echo_u32(rt)?;
+    let count = printing::echo(rt)?;
+    let pad = (printing::echo(rt)? % 256) as u8;
+    let sealed = payload(pad, printing::echo(rt)?);
     let mut bytes = page(size_block, &sealed, count);
-    let place = printing::echo() % 512;
-    let change = (printing::echo() % 256) as u8;
+    let place = printing::echo(rt)? % 512;
+    let change = (printing::echo(rt)? % 256) as u8;
     bytes[place] = bytes[place] ^ change;
-    let s = printing::echo();
-    let o = printing::echo();
+    let s = printing::echo(rt)?;
+    let o = printing::echo(rt)?;
     let mut scratch = [MARK; 640];
     let mut out = [MARK; 520];
     let opened = opening::open(
@@ -202,23 +206,22 @@ fn open_line() {
     let block = opened.size_block;
     let number = opened.page_number;
     let used = opened.used;
-    printing::number(refusal::outcome_number(outcome) as u64);
-    printing::number(block as u64);
-    printing::number(number as u64);
-    printing::number(used as u64);
-    tell_output(is_written(&out, &sealed), all_marks(&out, 0, MARK));
-    tell_scratch(&scratch);
+    printing::number(rt, refusal::outcome_number(outcome) as u64)?;
+    printing::number(rt, block as u64)?;
+    printing::number(rt, number as u64)?;
+    printing::number(rt, used as u64)?;
+    tell_output(rt, is_written(&out, &sealed), all_marks(&out, 0, MARK))?;
+    tell_scratch(rt, &scratch)
 }
 
-fn main() {
-    let rows = printing::read();
-    let mut i: u64 = 0;
-    while i < rows {
-        if printing::read() == 1 {
-            seal_line();
+fn main(rt: HostRuntime) -> io::Result<()> {
+    let rows = printing::read(&rt)?;
+    for _ in 0..rows {
+        if printing::read(&rt)? == 1 {
+            seal_line(&rt)?;
         } else {
-            open_line();
+            open_line(&rt)?;
         }
-        i += 1;
     }
+    Ok(())
 }

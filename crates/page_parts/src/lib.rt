@@ -1,5 +1,7 @@
 // What sealing and opening a page do with a key: its list is prepared in lent room, and over it the header is enciphered or the check made.
 
+#![tactic(auto)]
+
 ghost use Rattle.std.specs.Prelude.{◌≡◌, ◌++◌, ◌+◌, ◌*◌, length, take, drop};
 ghost use Rattle.block_bytes.specs.Blocks.{state_of, list_bytes};
 ghost use Rattle.key_lists.specs.declared.Direction.TheVariants.{Enciphering};

@@ -1,6 +1,8 @@
 // The steps in which a page is made in the output: header and payload are laid out, the payload is chained in its place, and the check is put
 // after it.
 
+#![tactic(auto)]
+
 ghost use Rattle.std.specs.Prelude.{◌≡◌, ◌++◌, ◌≤◌, length, take, drop};
 ghost use Rattle.block_bytes.specs.Blocks.{state_of};
 ghost use Rattle.chaining.specs.Chaining.{chained_bytes};

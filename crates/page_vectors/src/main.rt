@@ -1,6 +1,10 @@
 // Whole pages under keys of every size and every round count, sealed and opened again. Prints each page in the format of the independent program's
 // `pages` (reference/README.md).
 
+#![tactic(auto)]
+
+use std::io;
+
 // A page opens to the payload and the numbers that were sealed.
 fn opens(
     first_key: &[u8],
@@ -29,13 +33,14 @@ fn opens(
 
 // One page under two keys: it is sealed, printed and opened.
 fn page_line(
+    rt: &impl Print,
     first_key: &[u8],
     second_key: &[u8],
     rounds: u32,
     numbers: &[u8; 8],
     used: usize,
     payload: &[u8],
-) {
+) -> io::Result<()> {
     let block = numbers::four_from(numbers[0], numbers[1], numbers[2], numbers[3]);
     let number = numbers::two_from(numbers[4], numbers[5]);
     let mut scratch = [0u8; 576];
@@ -50,25 +55,25 @@ fn page_line(
         &mut scratch,
         &mut page,
     );
-    printing::word(b"page ");
-    printing::hex_bytes(first_key);
-    printing::space();
-    printing::hex_bytes(second_key);
-    printing::number(rounds as u64);
-    printing::number(block as u64);
-    printing::number(number as u64);
-    printing::number(used as u64);
-    printing::space();
-    printing::hex_bytes(&page);
+    printing::word(rt, b"page ")?;
+    printing::hex_bytes(rt, first_key)?;
+    printing::space(rt)?;
+    printing::hex_bytes(rt, second_key)?;
+    printing::number(rt, rounds as u64)?;
+    printing::number(rt, block as u64)?;
+    printing::number(rt, number as u64)?;
+    printing::number(rt, used as u64)?;
+    printing::space(rt)?;
+    printing::hex_bytes(rt, &page)?;
     let header = pages::header_of(block, number, (used % 65536) as u16);
     if !opens(first_key, second_key, rounds, &page, header, payload) {
-        printing::word(b" does not open");
+        printing::word(rt, b" does not open")?;
     }
-    printing::newline();
+    printing::newline(rt)
 }
 
 // Keys, numbers and payload drawn for one page. The answer is the generator's number after them.
-fn line(k: usize, rounds: u32, x: u64) -> u64 {
+fn line(rt: &impl Print, k: usize, rounds: u32, x: u64) -> io::Result<u64> {
     let mut first_bytes = [0u8; 24];
     let mut second_bytes = [0u8; 24];
     let mut drawn = [0u8; 8];
@@ -79,24 +84,39 @@ fn line(k: usize, rounds: u32, x: u64) -> u64 {
     let used = (numbers::two_from(drawn[6], drawn[7]) % 493) as usize;
     let x4 = printing::draw(x3, printing::first_mut(&mut payload, used));
     page_line(
+        rt,
         printing::first(&first_bytes, k),
         printing::first(&second_bytes, k),
         rounds,
         &drawn,
         used,
         &payload,
-    );
-    x4
+    )?;
+    Ok(x4)
 }
 
 // The pages for four round counts.
-fn four_lines(k: usize, x: u64, a: u32, b: u32, c: u32, d: u32) -> u64 {
-    line(k, d, line(k, c, line(k, b, line(k, a, x))))
+fn four_lines(
+    rt: &impl Print,
+    k: usize,
+    x: u64,
+    a: u32,
+    b: u32,
+    c: u32,
+    d: u32,
+) -> io::Result<u64> {
+    line(
+        rt,
+        k,
+        d,
+        line(rt, k, c, line(rt, k, b, line(rt, k, a, x)?)?)?,
+    )
 }
 
-fn main() {
-    let short = line(12, 11, line(12, 10, 1));
-    let middle = four_lines(18, short, 14, 15, 16, 17);
-    let long = four_lines(24, middle, 18, 19, 20, 21);
-    line(24, 23, line(24, 22, long));
+fn main(rt: HostRuntime) -> io::Result<()> {
+    let short = line(&rt, 12, 11, line(&rt, 12, 10, 1)?)?;
+    let middle = four_lines(&rt, 18, short, 14, 15, 16, 17)?;
+    let long = four_lines(&rt, 24, middle, 18, 19, 20, 21)?;
+    line(&rt, 24, 23, line(&rt, 24, 22, long)?)?;
+    Ok(())
 }

@@ -1,5 +1,7 @@
 // A page's header: its bytes from its numbers, its numbers from its bytes, and whether bytes have the form of a page.
 
+#![tactic(auto)]
+
 ghost use Rattle.std.specs.Prelude.{◌≡◌, ◌≤◌, length};
 ghost use Rattle.pages.specs.Pages.{header, block_in, page_number_in, used_in, page_form};
 

@@ -1,5 +1,7 @@
 // The permutation layer, by value.
 
+#![tactic(auto)]
+
 ghost use Rattle.std.specs.Prelude.{◌≡◌};
 ghost use Rattle.layers.specs.Layers.{permuted};
 

@@ -1,7 +1,9 @@
 // What the test programs share: pseudo-random bytes by the rule of reference/README.md, printing in its format, and rows of numbers read
 // from standard input.
 
-use libc::{STDIN_FILENO, STDOUT_FILENO};
+#![tactic(auto)]
+
+use std::io::{self, Read};
 
 // The generator's next number.
 pub fn next(x: u64) -> u64 {
@@ -36,117 +38,100 @@ fn digit(n: u8) -> u8 {
 }
 
 // A byte as two lowercase hexadecimal digits.
-pub fn hex(b: u8) {
-    let digits = [digit(b / 16), digit(b % 16)];
-    io::write_all(STDOUT_FILENO, &digits);
+pub fn hex(rt: &impl Print, b: u8) -> io::Result<()> {
+    word(rt, &[digit(b / 16), digit(b % 16)])
 }
 
-pub fn hex_column(c: [u8; 3]) {
-    hex(c[0]);
-    hex(c[1]);
-    hex(c[2]);
+pub fn hex_column(rt: &impl Print, c: [u8; 3]) -> io::Result<()> {
+    hex_bytes(rt, &c)
 }
 
-pub fn hex_state(a: [[u8; 3]; 4]) {
-    hex_column(a[0]);
-    hex_column(a[1]);
-    hex_column(a[2]);
-    hex_column(a[3]);
+pub fn hex_state(rt: &impl Print, a: [[u8; 3]; 4]) -> io::Result<()> {
+    for column in a {
+        hex_column(rt, column)?;
+    }
+    Ok(())
 }
 
-pub fn word(text: &[u8]) {
-    io::write_all(STDOUT_FILENO, text);
+pub fn word(rt: &impl Print, text: &[u8]) -> io::Result<()> {
+    rt.write_all(text)
 }
 
-pub fn space() {
-    word(b" ");
+pub fn space(rt: &impl Print) -> io::Result<()> {
+    word(rt, b" ")
 }
 
-pub fn newline() {
-    word(b"\n");
+pub fn newline(rt: &impl Print) -> io::Result<()> {
+    word(rt, b"\n")
 }
 
 // Fills a slice from the generator; the answer is the generator's number after it.
 pub fn draw(x: u64, out: &mut [u8]) -> u64 {
     let mut now = x;
-    let mut i: usize = 0;
-    while i < out.len() {
-        let drawn = next(now);
-        now = drawn;
-        out[i] = byte_of(drawn);
-        i += 1;
+    for b in out {
+        now = next(now);
+        *b = byte_of(now);
     }
     now
 }
 
-pub fn hex_bytes(bytes: &[u8]) {
-    let mut i: usize = 0;
-    while i < bytes.len() {
-        hex(bytes[i]);
-        i += 1;
+pub fn hex_bytes(rt: &impl Print, bytes: &[u8]) -> io::Result<()> {
+    for b in bytes {
+        hex(rt, *b)?;
     }
+    Ok(())
 }
 
-pub fn decimal(n: u64) {
-    io::print_decimal(STDOUT_FILENO, n);
+pub fn decimal(rt: &impl Print, n: u64) -> io::Result<()> {
+    rt.print(n)
 }
 
-pub fn number(n: u64) {
-    space();
-    decimal(n);
+pub fn number(rt: &impl Print, n: u64) -> io::Result<()> {
+    print!(rt; " {n}")
 }
 
 // The next byte of the input, or 0 where it has ended.
-fn next_byte() -> u8 {
-    let mut b = [0u8; 1];
-    io::read_full(STDIN_FILENO, &mut b);
-    b[0]
+fn next_byte(input: &mut impl Read) -> io::Result<u8> {
+    input.bytes().next().unwrap_or(Ok(0))
 }
 
 // The next number of the input: its digits, up to the byte after them. It is below 2^64 - 6.
-pub fn read() -> u64 {
+pub fn read(rt: &impl Input) -> io::Result<u64> {
+    let mut input = rt.reader();
     let mut n: u64 = 0;
-    let mut i: u32 = 0;
-    while i < 21 {
-        let b = next_byte();
+    for _ in 0..21 {
+        let b = next_byte(&mut input)?;
         if b < 48 || 57 < b {
-            return n;
+            return Ok(n);
         }
-        n = n % 1844674407370955161 * 10 + ((b - 48) % 10) as u64;
-        i += 1;
+        n = n % 1844674407370955161 * 10 + (b - 48) as u64;
     }
-    n
+    Ok(n)
 }
 
 // The next number of the input, printed: as a length, and as a number of 32 bits.
-pub fn echo() -> usize {
-    let n = read();
-    number(n);
-    n as usize
+pub fn echo(rt: &(impl Print + Input)) -> io::Result<usize> {
+    let n = read(rt)?;
+    number(rt, n)?;
+    Ok(n as usize)
 }
 
-pub fn echo_u32() -> u32 {
-    (echo() % 4294967296) as u32
+pub fn echo_u32(rt: &(impl Print + Input)) -> io::Result<u32> {
+    let n = echo(rt)?;
+    Ok((n % 4294967296) as u32)
 }
 
 // Every byte of a slice from an index on is still the mark that was put there.
 pub fn all_marks(bytes: &[u8], from: usize, mark: u8) -> bool {
-    let mut i = from;
-    while i < bytes.len() {
-        if bytes[i] != mark {
-            return false;
-        }
-        i += 1;
-    }
-    true
+    bytes.iter().skip(from).all(|b| *b == mark)
 }
 
 // The end of a line: whether every byte from an index on was left alone.
-pub fn kept(bytes: &[u8], from: usize, mark: u8) {
+pub fn kept(rt: &impl Print, bytes: &[u8], from: usize, mark: u8) -> io::Result<()> {
     if all_marks(bytes, from, mark) {
-        word(b" kept\n");
+        word(rt, b" kept\n")
     } else {
-        word(b" changed\n");
+        word(rt, b" changed\n")
     }
 }
 

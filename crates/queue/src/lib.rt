@@ -1,5 +1,7 @@
 // Checking a queue of grants on a roll by value: one list is prepared, and every grant is opened over it and judged as if it were checked alone.
 
+#![tactic(auto)]
+
 ghost use Rattle.std.specs.Prelude.{◌≡◌, true, ◌++◌, length, drop};
 ghost use Rattle.refusal.specs.Reasons.{outcome_number};
 ghost use Rattle.rounds.specs.Rounds.{listed_from};

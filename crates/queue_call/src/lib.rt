@@ -1,5 +1,7 @@
 // A queue of grants checked on a roll's bytes, as the C call makes it: the entries that it needs are read where they lie.
 
+#![tactic(auto)]
+
 ghost use Rattle.std.specs.Prelude.{◌≡◌, true, ◌++◌, length, drop};
 ghost use Rattle.rounds.specs.Rounds.{listed_from};
 ghost use Rattle.list_rounds.specs.ListRounds.{list_length};

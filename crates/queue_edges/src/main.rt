@@ -2,7 +2,10 @@
 // grants, and whether every byte that it has no leave to write was left alone. The rows have each reason for refusing alone, each two that can hold
 // together, and both sides of every limit (tools/expected-queue).
 
+#![tactic(auto)]
+
 use roll::Roll;
+use std::io;
 
 const MARK: u8 = 165;
 
@@ -87,11 +90,9 @@ fn kind_of_block(n: usize) -> [u8; 12] {
 fn grants() -> [u8; 780] {
     let key = [7u8; 12];
     let mut out = [0u8; 780];
-    let mut i: usize = 0;
-    while i < GRANTS {
+    for i in 0..GRANTS {
         let at = 12 * i;
         cipher::encipher(&key, 10, &kind(i % 17), &mut out[at..at + 12]);
-        i += 1;
     }
     out
 }
@@ -120,16 +121,16 @@ fn rights() -> [u8; 200] {
     rights
 }
 
-fn line(grants: &[u8; 780]) {
+fn line(rt: &(impl Print + Input), grants: &[u8; 780]) -> io::Result<()> {
     let key = [7u8; 32];
     let mut out = [MARK; 80];
-    printing::word(b"queue");
-    let k = printing::echo();
-    let r = printing::echo_u32();
-    let l = printing::echo();
-    let o = printing::echo();
-    let asked = printing::echo_u32();
-    let right = printing::echo_u32();
+    printing::word(rt, b"queue")?;
+    let k = printing::echo(rt)?;
+    let r = printing::echo_u32(rt)?;
+    let l = printing::echo(rt)?;
+    let o = printing::echo(rt)?;
+    let asked = printing::echo_u32(rt)?;
+    let right = printing::echo_u32(rt)?;
     let lent = printing::first(grants, l);
     let answer = queue::check(
         printing::first(&key, k),
@@ -145,19 +146,18 @@ fn line(grants: &[u8; 780]) {
     );
     let number = refusal::outcome_number(answer);
     let written = if number == 0 { l / 12 } else { 0 };
-    printing::number(number as u64);
-    printing::space();
-    printing::hex_bytes(printing::first(&out, written));
-    printing::kept(&out, written, MARK);
+    printing::number(rt, number as u64)?;
+    printing::space(rt)?;
+    printing::hex_bytes(rt, printing::first(&out, written))?;
+    printing::kept(rt, &out, written, MARK)
 }
 
-fn main() {
+fn main(rt: HostRuntime) -> io::Result<()> {
     let grants = grants();
-    let rows = printing::read();
-    let mut i: u64 = 0;
-    while i < rows {
-        printing::read();
-        line(&grants);
-        i += 1;
+    let rows = printing::read(&rt)?;
+    for _ in 0..rows {
+        printing::read(&rt)?;
+        line(&rt, &grants)?;
     }
+    Ok(())
 }

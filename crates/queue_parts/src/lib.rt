@@ -1,5 +1,7 @@
 // What the calls that check a queue of grants are made of: what is tried of one, and a verdict as the byte that answers for a grant.
 
+#![tactic(auto)]
+
 ghost use Rattle.std.specs.Prelude.{◌≡◌};
 ghost use Rattle.refusal.specs.Reasons.{outcome_number};
 ghost use Rattle.refusal.specs.Tries.{first};

@@ -1,11 +1,13 @@
 // Why a call refuses: the reasons by name, their numbers, and the answer of a call that either does its work or refuses.
 
+#![tactic(auto)]
+
 ghost use Rattle.std.specs.Prelude.{◌≡◌, [], ◌∷◌};
 ghost use Rattle.refusal.specs.Reasons.{reason_number, outcome_number};
 ghost use Rattle.refusal.specs.Tries.{◌unless◌, after, is_refused};
 
 // Document 01's reasons found in the input and in the state, and those that requests add.
-#[derive(Drop)]
+#[derive(Clone, Copy)]
 pub enum Reason {
     KeyLength,
     RoundCount,
@@ -30,7 +32,7 @@ pub enum Reason {
 }
 
 // What a call answers: that it did its work, or why it refused.
-#[derive(Drop)]
+#[derive(Clone, Copy)]
 pub enum Outcome {
     Done,
     Refused(Reason),

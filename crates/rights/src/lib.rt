@@ -1,12 +1,14 @@
 // What a grant allows, what is asked for, and the highest right that a contractor has on the roll.
 
+#![tactic(auto)]
+
 ghost use Rattle.std.specs.Prelude.{◌≡◌, true};
 ghost use Rattle.rights.specs.Rights.{right_number, is_right, covers, highest, within_highest};
 
 use basics::{both, either};
 
 // Overwriting includes reading.
-#[derive(Drop)]
+#[derive(Clone, Copy)]
 pub enum Right {
     Reading,
     Overwriting,

@@ -1,19 +1,21 @@
 // The roll by value: for each contractor a count, and a figure for the highest right.
 
+#![tactic(auto)]
+
 ghost use Rattle.std.specs.Prelude.{◌≡◌, true};
 ghost use Rattle.roll.specs.Roll.{empty_roll, is_contractor, entry_of, in_standing, with_entry};
 
 use basics::both;
 
 // Count and figure of contractor c stand at c - 1. The figure 2 stands for overwriting, and any other for reading only.
-#[derive(Drop)]
+#[derive(Clone, Copy)]
 pub struct Roll {
     pub counts: [u16; 200],
     pub rights: [u8; 200],
 }
 
 // What the roll has of one contractor.
-#[derive(Drop)]
+#[derive(Clone, Copy)]
 pub struct Entry {
     pub count: u16,
     pub figure: u8,

@@ -1,6 +1,8 @@
 // A roll as hosts keep and lend it: the counts, two bytes for each contractor, big end first, and then the rights, a byte for each. An entry is read and
 // written where it lies.
 
+#![tactic(auto)]
+
 ghost use Rattle.std.specs.Prelude.{◌≡◌, true, ◌++◌, ◌≤◌, length, drop};
 ghost use Rattle.refusal.specs.Reasons.{outcome_number};
 ghost use Rattle.refusal.specs.Tries.{after};

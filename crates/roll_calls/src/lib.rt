@@ -1,5 +1,7 @@
 // The empty roll, and entering, withdrawing and changing the highest right on a roll's bytes: what the C calls of these names do.
 
+#![tactic(auto)]
+
 ghost use Rattle.std.specs.Prelude.{◌≡◌};
 ghost use Rattle.roll_calls.specs.RollCalls.{empty_call_number, empty_call_output, enter_call_number, enter_call_roll};
 ghost use Rattle.roll_calls.specs.RollCalls.{withdraw_call_number, withdraw_call_roll, change_call_number, change_call_roll};

@@ -1,6 +1,8 @@
 // Entering, withdrawing and changing the highest right on a roll by value. What they try, and what they make of a contractor's entry, is the same on
 // a roll's bytes.
 
+#![tactic(auto)]
+
 ghost use Rattle.std.specs.Prelude.{◌≡◌, true, ◌<◌};
 ghost use Rattle.refusal.specs.Reasons.{outcome_number};
 ghost use Rattle.refusal.specs.Tries.{after};
@@ -14,7 +16,7 @@ use rights::is_right;
 use roll::{Entry, Roll, entry_of, is_contractor, is_in_standing, with_entry};
 
 // What a call that changes the roll answers.
-#[derive(Drop)]
+#[derive(Clone, Copy)]
 pub struct Changed {
     pub outcome: Outcome,
     pub roll: Roll,

@@ -1,5 +1,7 @@
 // A list of calls in bytes, run on a holder freshly made from a key, with every answer written to a lent log.
 
+#![tactic(auto)]
+
 ghost use Rattle.std.specs.Prelude.{◌≡◌, ◌++◌, ◌+◌, ◌≤◌, length, take, drop, replicate};
 ghost use Rattle.refusal.specs.Reasons.{outcome_number};
 ghost use Rattle.routes.specs.Routes.{returned, answer};
@@ -16,7 +18,7 @@ pub const BACK: u8 = 254;
 pub const SUBKEY: u8 = 255;
 
 // A call's answer, with the holder that it returned or left.
-#[derive(Drop)]
+#[derive(Clone, Copy)]
 pub struct Logged {
     pub number: u32,
     pub steps: usize,

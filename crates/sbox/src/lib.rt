@@ -1,5 +1,7 @@
 // The S-box of a byte, computed from two mini-boxes of sixteen 4-bit numbers. What is computed between two look-ups is kept as wide as an index.
 
+#![tactic(auto)]
+
 ghost use Rattle.std.specs.Prelude.{◌≡◌, ◌%◌, ◌<◌};
 ghost use Rattle.sbox.specs.Sbox.{table_p, table_q, mini_p, mini_q, join_tops, join_lows, join_halves, sbox};
 ghost use Rattle.sbox.specs.ForProver.{IsNibble};

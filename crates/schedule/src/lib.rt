@@ -1,6 +1,8 @@
 // A stage after another. A stage of 2t columns is kept in 24 bytes: `stage_of_key` puts zeros past it, and the steps
 // leave what stands there.
 
+#![tactic(auto)]
+
 ghost use Rattle.std.specs.Prelude.{◌≡◌, ◌++◌, ◌*◌, ◌≤◌, length, drop};
 ghost use Rattle.stages.specs.Columns.{padded};
 ghost use Rattle.stages.specs.Stages.{stage_after};

@@ -1,5 +1,7 @@
 // Which size blocks may be asked for.
 
+#![tactic(auto)]
+
 ghost use Rattle.std.specs.Prelude.{◌≡◌};
 ghost use Rattle.size_blocks.specs.SizeBlocks.{is_size_block};
 

@@ -1,5 +1,7 @@
 // The three key sizes: a type for each, with its turn and its round limits as constants.
 
+#![tactic(auto)]
+
 ghost use Rattle.std.specs.Prelude.{◌≡◌, true};
 ghost use Rattle.sizes.specs.Sizes.{turn, key_length, size_for, t_of, rounds_allowed, Sized};
 

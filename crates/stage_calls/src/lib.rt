@@ -1,5 +1,7 @@
 // A stage straight from the key, and its subkey: what the C calls of these names do.
 
+#![tactic(auto)]
+
 ghost use Rattle.std.specs.Prelude.{◌≡◌};
 ghost use Rattle.stage_calls.specs.StageCalls.{stage_call_number, stage_call_output, subkey_call_output};
 

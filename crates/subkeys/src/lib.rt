@@ -1,5 +1,7 @@
 // A stage's subkey. A stage is kept in 24 bytes.
 
+#![tactic(auto)]
+
 ghost use Rattle.std.specs.Prelude.{◌≡◌, ◌<◌};
 ghost use Rattle.sbox.specs.Sbox.{table_p, table_q};
 ghost use Rattle.layers.specs.State.{column};

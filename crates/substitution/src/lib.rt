@@ -1,5 +1,7 @@
 // The substitution layer: the S-box on every byte of a state, by value.
 
+#![tactic(auto)]
+
 ghost use Rattle.std.specs.Prelude.{◌≡◌, get_or};
 ghost use Rattle.sbox.specs.Sbox.{table_p, table_q, sbox};
 ghost use Rattle.layers.specs.State.{column};

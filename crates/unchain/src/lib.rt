@@ -1,5 +1,7 @@
 // A chaining undone: whole blocks deciphered from lent bytes to others, and the test that they are zero from a place on, which writes nothing.
 
+#![tactic(auto)]
+
 ghost use Rattle.std.specs.Prelude.{◌≡◌, true, ◌++◌, ◌*◌, ◌≤◌, length, drop};
 ghost use Rattle.layers.specs.Layers.{added};
 ghost use Rattle.rounds.specs.Rounds.{enciphered};

@@ -1,6 +1,8 @@
 // Demand 2 of running code: functions that make the calls on a roll by value and nothing else, and whose contracts say when a grant opens, and
 // that what was issued opens, for all that can be handed in.
 
+#![tactic(auto)]
+
 ghost use Rattle.std.specs.Prelude.{◌≡◌};
 ghost use Rattle.refusal.specs.Tries.{first, answered};
 ghost use Rattle.grant.specs.Grants.{verdict_number, verdict_contractor, verdict_right};

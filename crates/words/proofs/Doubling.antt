@@ -1,42 +1,13 @@
--- Shift and mask double each byte of a word: shown of one byte by a test of the 256, and carried to four.
+-- Shift and mask double each byte of a word: what is shown of one byte, carried to four.
 use mathlib.Core.Path.{◌≡◌, sym, ap, ap₂, ◌∙◌, subst}
-use Prim.Native.Nat.{ℕ, ◌*◌, ◌/◌, ◌%◌, ◌-◌, ◌^◌, ◌<◌, ◌≤◌}
+use Prim.Native.Nat.{ℕ, ◌*◌, ◌/◌, ◌%◌, ◌-◌, ◌^◌, ◌<◌}
 use native.Mathlib.Omega.{arith}
-use lib.Dec.{eqb, eqb→eq, ltb, ltb→lt, lit<}
-use lib.Bits.{bit_and, bit_xor, and_le_r}
-use Rattle.field.specs.Field.{times, product, reduced}
-use Rattle.field.proofs.Computed.{passed}
+use lib.Dec.{lit<}
+use lib.Bits.{bit_and, bit_xor}
+use Rattle.field.specs.Field.{times}
 use Rattle.words.specs.Words.{word, byte_of, doubled, leaving, shifted_and_masked}
+use Rattle.words.proofs.OneByte.{digit, shifted, brought, mask, four_masks, digit_128, digit_127, masked, shifted_byte, brought_byte, twice}
 use Rattle.words.proofs.Lanes.{Bytes, same_bytes_lem, and_bytes, xor_bytes, again, word_below, byte_below}
-
--- ---- of one byte: the digit that leaves it, what stays, and what the digit brings back
-abbrev digit : ℕ → ℕ
-digit x = x / 128
-
-abbrev shifted : ℕ → ℕ
-shifted x = bit_xor x (digit x * 128) * 2
-
-abbrev brought : ℕ → ℕ
-brought x = bit_and (digit x * 127) 0x4D
-
-digit_128 : (x : ℕ) → x < 256 → digit x * 128 < 256
-digit_128 x h = omega arith
-
-digit_127 : (x : ℕ) → x < 256 → digit x * 127 < 256
-digit_127 x h = omega arith
-
-masked : (x : ℕ) → x < 256 → bit_and x 128 ≡ digit x * 128
-masked x h = eqb→eq _ _ (passed 256 (λ x. eqb (bit_and x 128) (digit x * 128)) tt x h)
-
-shifted_byte : (x : ℕ) → x < 256 → shifted x < 256
-shifted_byte x h = ltb→lt (shifted x) 256 (passed 256 (λ x. ltb (shifted x) 256) tt x h)
-
-brought_byte : (x : ℕ) → brought x < 256
-brought_byte x = let h : brought x ≤ 0x4D = and_le_r (digit x * 127) 0x4D in omega arith
-
-twice : (x : ℕ) → x < 256 → bit_xor (shifted x) (brought x) ≡ times 2 x
-unfolding times product reduced
-twice x h = eqb→eq _ _ (passed 256 (λ x. eqb (bit_xor (shifted x) (brought x)) (times 2 x)) tt x h)
 
 -- ---- of four: twice a word; a word whose bytes are 128 or 0, less what it is shifted by 7; and a word that fits
 two_times : (b : ℕ → ℕ) → word b * 2 ≡ word (λ j. b j * 2)
@@ -58,11 +29,11 @@ staying_is b h =
     ∙ ap (λ (n : ℕ). n * 2) (xor_bytes b (λ j. digit (b j) * 128) h (λ j. digit_128 (b j) (h j)))
     ∙ two_times (λ j. bit_xor (b j) (digit (b j) * 128))
 
-bringing_is : (b : ℕ → ℕ) → Bytes b → bit_and (leaving (word b) - leaving (word b) / 2 ^ 7) 0x4D4D4D4D ≡ word (λ j. brought (b j))
+bringing_is : (b : ℕ → ℕ) → Bytes b → bit_and (leaving (word b) - leaving (word b) / 2 ^ 7) four_masks ≡ word (λ j. brought (b j))
 bringing_is b h =
-    ap (λ (n : ℕ). bit_and (n - n / 2 ^ 7) 0x4D4D4D4D) (leaving-is b h)
-    ∙ ap (λ (n : ℕ). bit_and n 0x4D4D4D4D) (less_part (λ j. digit (b j)))
-    ∙ and_bytes (λ j. digit (b j) * 127) (λ j. 0x4D) (λ j. digit_127 (b j) (h j)) (λ j. lit< tt)
+    ap (λ (n : ℕ). bit_and (n - n / 2 ^ 7) four_masks) (leaving-is b h)
+    ∙ ap (λ (n : ℕ). bit_and n four_masks) (less_part (λ j. digit (b j)))
+    ∙ and_bytes (λ j. digit (b j) * 127) (λ j. mask) (λ j. digit_127 (b j) (h j)) (λ j. lit< tt)
 
 doubles_bytes : (b : ℕ → ℕ) → Bytes b → shifted_and_masked (word b) ≡ word (λ j. times 2 (b j))
 doubles_bytes b h =

@@ -1,3 +1,4 @@
 pub mod Lanes
+pub mod OneByte
 pub mod Doubling
 pub mod Claims

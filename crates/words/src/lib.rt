@@ -1,5 +1,7 @@
 // Four bytes in a word of 32 bits, all doubled at once.
 
+#![tactic(auto)]
+
 ghost use Rattle.std.specs.Prelude.{◌≡◌};
 ghost use Rattle.words.specs.Words.{doubled};
 

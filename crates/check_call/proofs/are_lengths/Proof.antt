@@ -3,5 +3,5 @@ use borrow.Author.Rules.{rules}
 use Rattle.check_call.proofs.are_lengths.Statement.{statement}
 use Rattle.check_call.proofs.are_lengths.Tie as tie
 
-pub are-lengths-spec : {M : Type 1} → statement M
-are-lengths-spec = tie.close (tie.spec (λ c κs. search rules) (λ c. c.both.ensures))
+pub are_lengths_spec : {M : Type 1} → statement M
+are_lengths_spec = tie.close (tie.spec (λ c κs. search rules) (λ c. c.both.ensures))

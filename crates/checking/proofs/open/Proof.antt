@@ -13,7 +13,7 @@ returns : tie.Need-returns
 unfolding opened_grant cipher_block
 returns c =
     let w = c.before in
-    w.write-state.ensures ∙ ap (λ (x : State). bytes_of x ++ []) w.before.state-under.ensures ∙ append-nil _
+    w.write_state.ensures ∙ ap (λ (x : State). bytes_of x ++ []) w.before.state_under.ensures ∙ append-nil _
 
 pub open_spec : {M : Type 1} → statement M
 open_spec = tie.close (tie.spec (λ c. search rules) (λ c κs. search rules) (λ c κs. search rules) returns)

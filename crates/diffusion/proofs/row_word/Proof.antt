@@ -9,8 +9,8 @@ use Rattle.diffusion.proofs.row_word.Tie as tie
 returns : tie.Need-returns
 returns c =
     let a = c.before.args in
-    ap four_bytes c.four-from.ensures
+    ap four_bytes c.four_from.ensures
     ∙ bytes_again a.c0 a.c1 a.c2 a.c3 (search rules) (search rules) (search rules) (search rules)
 
-pub row-word-spec : {M : Type 1} → statement M
-row-word-spec = tie.close (tie.spec (λ c κs. search rules) returns)
+pub row_word_spec : {M : Type 1} → statement M
+row_word_spec = tie.close (tie.spec (λ c κs. search rules) returns)

@@ -7,7 +7,7 @@ use Rattle.field.proofs.times_c.Tie as tie
 returns : tie.Need-returns
 returns c = cc (times_c_is c.before.before.before.before.args.x (search rules))
 
-pub times-c-spec : {M : Type 1} → statement M
-times-c-spec =
+pub times_c_spec : {M : Type 1} → statement M
+times_c_spec =
     tie.close (tie.spec (λ c κs. search rules) (λ c κs. search rules) (λ c κs. search rules) (λ c κs. search rules)
     returns)

@@ -8,5 +8,5 @@ returns : tie.Need-returns
 unfolding blank
 returns c = refl
 
-pub blank-holder-spec : {M : Type 1} → statement M
-blank-holder-spec = tie.close (tie.spec returns)
+pub blank_holder_spec : {M : Type 1} → statement M
+blank_holder_spec = tie.close (tie.spec returns)

@@ -13,8 +13,8 @@ returns c =
     let x = c.before.args.x in
     let y = c.before.args.y in
     let z = c.before.args.z in
-    ap (λ (m : ℕ). m ⊕ (x ⊕ (y ⊕ z))) c.times-c.ensures
+    ap (λ (m : ℕ). m ⊕ (x ⊕ (y ⊕ z))) c.times_c.ensures
     ∙ times-inverse (x ⊕ (y ⊕ z)) (byte x (y ⊕ z) (search rules) (byte y z (search rules) (search rules)))
 
-pub inverse-column-term-spec : {M : Type 1} → statement M
-inverse-column-term-spec = tie.close (tie.spec (λ c κs. search rules) returns)
+pub inverse_column_term_spec : {M : Type 1} → statement M
+inverse_column_term_spec = tie.close (tie.spec (λ c κs. search rules) returns)

@@ -8,5 +8,5 @@ returns : tie.Need-returns
 unfolding empty_roll
 returns c = refl
 
-pub empty-spec : {M : Type 1} → statement M
-empty-spec = tie.close (tie.spec returns)
+pub empty_spec : {M : Type 1} → statement M
+empty_spec = tie.close (tie.spec returns)

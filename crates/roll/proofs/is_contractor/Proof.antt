@@ -3,5 +3,5 @@ use borrow.Author.Rules.{rules}
 use Rattle.roll.proofs.is_contractor.Statement.{statement}
 use Rattle.roll.proofs.is_contractor.Tie as tie
 
-pub is-contractor-spec : {M : Type 1} → statement M
-is-contractor-spec = tie.close (tie.spec (λ c κs. search rules) (λ c. c.both.ensures))
+pub is_contractor_spec : {M : Type 1} → statement M
+is_contractor_spec = tie.close (tie.spec (λ c κs. search rules) (λ c. c.both.ensures))

@@ -8,5 +8,5 @@ returns : tie.Need-returns
 unfolding in_standing
 returns c = c.both.ensures
 
-pub is-in-standing-spec : {M : Type 1} → statement M
-is-in-standing-spec = tie.close (tie.spec (λ c κs. search rules) returns)
+pub is_in_standing_spec : {M : Type 1} → statement M
+is_in_standing_spec = tie.close (tie.spec (λ c κs. search rules) returns)

@@ -3,5 +3,5 @@ use borrow.Author.Rules.{rules}
 use Rattle.roll_bytes.proofs.try_roll.Statement.{statement}
 use Rattle.roll_bytes.proofs.try_roll.Tie as tie
 
-pub try-roll-spec : {M : Type 1} → statement M
-try-roll-spec = tie.close (tie.spec (λ c κs. search rules) (λ c. c.unless.ensures))
+pub try_roll_spec : {M : Type 1} → statement M
+try_roll_spec = tie.close (tie.spec (λ c κs. search rules) (λ c. c.unless.ensures))

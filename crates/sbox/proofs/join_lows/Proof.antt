@@ -7,5 +7,5 @@ use Rattle.sbox.proofs.join_lows.Tie as tie
 returns : tie.Need-returns
 returns c = let e = lows_is c.args.h c.args.l c.requires.0 c.requires.1 in record { is = e; small = omega arith }
 
-pub join-lows-spec : {M : Type 1} → statement M
-join-lows-spec = tie.close (tie.spec returns)
+pub join_lows_spec : {M : Type 1} → statement M
+join_lows_spec = tie.close (tie.spec returns)

@@ -8,5 +8,5 @@ returns : tie.Need-returns
 unfolding is_size_block
 returns c = refl
 
-pub is-size-block-spec : {M : Type 1} → statement M
-is-size-block-spec = tie.close (tie.spec returns)
+pub is_size_block_spec : {M : Type 1} → statement M
+is_size_block_spec = tie.close (tie.spec returns)

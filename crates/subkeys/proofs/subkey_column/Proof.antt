@@ -11,9 +11,9 @@ returns : tie.Need-returns
 returns c =
     let a = c.before.before.before.before.args in
     let k = a.k.now in
-    ap (λ (b : ℕ). b ∷ cell k 1 a.j ∷ cell k 2 a.j ∷ []) c.substitute-with.ensures
+    ap (λ (b : ℕ). b ∷ cell k 1 a.j ∷ cell k 2 a.j ∷ []) c.substitute_with.ensures
 
-pub subkey-column-spec : {M : Type 1} → statement M
-subkey-column-spec =
+pub subkey_column_spec : {M : Type 1} → statement M
+subkey_column_spec =
     tie.close (tie.spec (λ c. search rules) (λ c. search rules) (λ c. search rules) (λ c. search rules) (λ c. search rules)
     (λ c. search rules) (λ c. search rules) (λ c. search rules) (λ c. search rules) (λ c κs. search rules) returns)

@@ -11,7 +11,7 @@ use Rattle.unchain.proofs.zero_from.Tie as tie
 returns : tie.Need-returns
 returns c =
     let w = c.before.before.before in
-    c.zeros-from.ensures ∙ ap (λ (l : List ℕ). all_zero (drop w.before.before.args.n l)) w.write-state.ensures
+    c.zeros_from.ensures ∙ ap (λ (l : List ℕ). all_zero (drop w.before.before.args.n l)) w.write_state.ensures
 
-pub zero-from-spec : {M : Type 1} → statement M
-zero-from-spec = tie.close (tie.spec (λ c. search rules) (λ c κs. search rules) (λ c. search rules) (λ c κs. search rules) returns)
+pub zero_from_spec : {M : Type 1} → statement M
+zero_from_spec = tie.close (tie.spec (λ c. search rules) (λ c κs. search rules) (λ c. search rules) (λ c κs. search rules) returns)

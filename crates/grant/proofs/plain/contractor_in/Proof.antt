@@ -8,7 +8,7 @@ use Rattle.grant.proofs.plain.contractor_in.Tie as tie
 
 returns : tie.Need-returns
 unfolding contractor_in
-returns c = c.four-from.ensures ∙ omega arith
+returns c = c.four_from.ensures ∙ omega arith
 
 pub contractor_in_spec : {M : Type 1} → statement M
 contractor_in_spec = tie.close (tie.spec (λ c. search rules) (λ c. search rules) (λ c κs. search rules) returns)

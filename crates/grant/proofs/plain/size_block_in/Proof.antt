@@ -6,7 +6,7 @@ use Rattle.grant.proofs.plain.size_block_in.Tie as tie
 
 returns : tie.Need-returns
 unfolding size_block_in
-returns c = c.four-from.ensures
+returns c = c.four_from.ensures
 
 pub size_block_in_spec : {M : Type 1} → statement M
 size_block_in_spec =

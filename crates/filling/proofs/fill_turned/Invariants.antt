@@ -1,0 +1,11 @@
+-- `filling::fill_turned` meets its contract. The invariant says what is done so far.
+use Prim.Native.Nat.{◌-◌}
+use Rattle.filling.proofs.Turned.{back}
+use Rattle.filling.proofs.Filling.{Filling}
+use Rattle.filling.proofs.fill_turned.Given as goal
+
+abbrev pub invariant-loop-s : goal.invariant-loop-s
+invariant-loop-s l = Filling l.key l.rounds (back l.key l.rounds) l.initial.out l.out l.k l.s
+
+abbrev pub decreases-loop-s : goal.decreases-loop-s
+decreases-loop-s l = l.rounds - l.s

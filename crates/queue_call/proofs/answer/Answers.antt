@@ -1,0 +1,20 @@
+-- `queue_call::answer` meets its contract.
+use mathlib.Core.Path.{ap, ap₂, ◌∙◌}
+use mathlib.Core.List.{List}
+use Prim.Native.Nat.{ℕ}
+use Rattle.roll.specs.declared.Entry.{Entry}
+use Rattle.roll.specs.Roll.{entry_of}
+use Rattle.roll_bytes.specs.RollBytes.{roll_of}
+use Rattle.grant.specs.Grants.{contractor_in}
+use Rattle.judging.specs.Judging.{judged_number}
+use Rattle.queue_parts.specs.ForProver.{number_over}
+use borrow.Author.Rules.{rules}
+use Rattle.queue_call.proofs.answer.Goals as goal
+
+pub returns : goal.returns
+unfolding number_over
+returns c = let e = c.open_prepared-plain.ensures in
+    let ec = c.entry_in-entry.ensures ∙ ap (entry_of (roll_of c.args.roll.now)) (c.contractor_in.ensures
+    ∙ ap contractor_in e) in
+    c.verdict_byte.ensures ∙ c.judge.ensures.result_value
+    ∙ ap₂ (λ (p : List ℕ) (k : Entry). judged_number p k c.args.size_block c.args.right) e ec
