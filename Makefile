@@ -17,8 +17,7 @@ run:
 	tools/run
 
 library:
-	rt check capi
-	rt staticlib capi
+	tools/library
 
 install:
 	tools/install $(PREFIX)
@@ -40,7 +39,7 @@ checks:
 	tools/check-crates
 	tools/check-crates --shams
 	tools/check-edits
-	rt fmt --check
+	tools/check-edits --shams
 
 reference:
 	+cd reference && cargo test --release --offline --quiet

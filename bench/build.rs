@@ -6,7 +6,7 @@ use std::fs;
 use std::path::{Path, PathBuf};
 use std::process::{Command, Stdio};
 
-/// Where `rt staticlib capi` leaves the archive, seen from this directory, unless
+/// Where `make library` leaves the archive, seen from this directory, unless
 /// GORDZILA_ARCHIVE names another.
 const ARCHIVE: &str = "../target/staticlib/libcapi.a";
 
@@ -150,7 +150,7 @@ fn link_library(out: &Path) {
     let archive = setting("GORDZILA_ARCHIVE", ARCHIVE);
     println!("cargo:rerun-if-changed={archive}");
     let bytes = fs::read(&archive).unwrap_or_else(|error| {
-        panic!("{archive}: {error}; `rt staticlib capi` makes the archive, or set GORDZILA_ARCHIVE")
+        panic!("{archive}: {error}; `make library` makes the archive, or set GORDZILA_ARCHIVE")
     });
     fs::write(out.join("libgordzila.a"), &bytes).expect("the archive can be copied");
     println!("cargo:rustc-link-lib=static=gordzila");

@@ -9,6 +9,9 @@ import shutil
 
 HERE = pathlib.Path(__file__).resolve().parent.parent
 
+# The crate whose public functions are the C interface. What is exported to C elsewhere, as from the static library, has to be one of them.
+INTERFACE = "capi"
+
 # Document 01, "What the store calls", and what requests add to it.
 CALLS = {
     "cipher": ["encipher", "decipher"],
@@ -47,10 +50,18 @@ def crate_of(path):
     return parts[max(n for n, part in enumerate(parts) if part in ("specs", "src")) - 1]
 
 
+def in_crates(root):
+    """All files and folders of the crates, but for the folder out/ of each, in which rt keeps its work."""
+    for crate in sorted((root / "crates").iterdir()):
+        yield crate
+        for part in (part for part in sorted(crate.iterdir()) if part.name != "out"):
+            yield from [part, *part.rglob("*")]
+
+
 def copied(room):
     """A copy of what the tools look at."""
     for part in ("crates", "docs", "include", "hosts", "tools", "reference"):
-        shutil.copytree(HERE / part, room / part, ignore=shutil.ignore_patterns("target"))
+        shutil.copytree(HERE / part, room / part, ignore=shutil.ignore_patterns("target", "out"))
     shutil.copy(HERE / "README.md", room)
     return room
 
@@ -110,6 +121,11 @@ def source_files(root, crate="*"):
 def exported(function):
     """Is it exported to C?"""
     return 'extern "C"' in function.before
+
+
+def interface(root):
+    """The calls of the C interface, by name."""
+    return {f.name: f for path in source_files(root, INTERFACE) for f in functions(path) if f.before.startswith("pub")}
 
 
 def records(root):

@@ -3,7 +3,7 @@
 use std::env;
 use std::fs;
 
-/// Where `rt staticlib capi` leaves the archive, seen from this directory, unless
+/// Where `make library` leaves the archive, seen from this directory, unless
 /// GORDZILA_ARCHIVE names another.
 const ARCHIVE: &str = "../../target/staticlib/libcapi.a";
 
@@ -14,7 +14,7 @@ fn main() {
     let archive = env::var("GORDZILA_ARCHIVE").unwrap_or_else(|_| ARCHIVE.to_string());
     println!("cargo:rerun-if-changed={archive}");
     let bytes = fs::read(&archive).unwrap_or_else(|error| {
-        panic!("{archive}: {error}; `rt staticlib capi` makes the archive, or set GORDZILA_ARCHIVE")
+        panic!("{archive}: {error}; `make library` makes the archive, or set GORDZILA_ARCHIVE")
     });
     let (length, checksum) = (bytes.len(), fnv_1a(&bytes));
     println!(

@@ -4,7 +4,7 @@ use std::env;
 use std::fs;
 use std::path::{Path, PathBuf};
 
-/// Where `rt staticlib capi` leaves the archive, seen from this package, unless
+/// Where `make library` leaves the archive, seen from this package, unless
 /// GORDZILA_ARCHIVE names another.
 const ARCHIVE: &str = "../../../target/staticlib/libcapi.a";
 
@@ -27,7 +27,7 @@ fn archive() -> PathBuf {
 fn link_copy(archive: &Path, out: &Path) {
     let bytes = fs::read(archive).unwrap_or_else(|error| {
         panic!(
-            "{}: {error}; run `rt staticlib capi` first, or let GORDZILA_ARCHIVE name the archive",
+            "{}: {error}; run `make library` first, or let GORDZILA_ARCHIVE name the archive",
             archive.display()
         )
     });
