@@ -85,12 +85,14 @@ def without_comments(whole):
 
 
 def comment_above(whole, start):
-    """The comment on the lines before a place, without its marks; attributes may stand between."""
-    lines = []
+    """The comment on the lines before a place, without its marks; attributes may stand between, with comments of their own within them."""
+    lines, attribute = [], False
     for line in reversed(whole[:start].splitlines()):
-        if line.strip().startswith("//"):
-            lines.append(line.strip()[2:].strip())
-        elif not line.strip().startswith("#["):
+        line = line.strip()
+        attribute = (attribute or line.endswith(")]")) and not line.startswith("#[")
+        if line.startswith("//") and not attribute:
+            lines.append(line[2:].strip())
+        elif not (attribute or line.startswith("#[")):
             break
     return " ".join(reversed(lines))
 

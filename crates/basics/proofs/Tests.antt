@@ -13,13 +13,6 @@ pub and_second : (a b : Bool) → (a && b) ≡ true → b ≡ true
 and_second true b e = e
 and_second false b e = absurd (false≢true e)
 
--- a test joined to those before it, in a loop: it is made next and put first
-pub and_turned : (p q r : Bool) → (p && (q && r)) ≡ ((q && p) && r)
-and_turned true true r = refl
-and_turned true false r = refl
-and_turned false true r = refl
-and_turned false false r = refl
-
 pub and_true : (c : Bool) → (c && true) ≡ c
 and_true true = refl
 and_true false = refl

@@ -31,9 +31,9 @@ fn cipher_lines(rt: &impl Print, x: u64, key: &[u8], rounds: u32) -> io::Result<
     let mut out = [0u8; 12];
     let x1 = printing::draw(x, &mut plain);
     let x2 = printing::draw(x1, &mut block);
-    cipher::encipher(key, rounds, &plain, &mut out);
+    let _ = cipher::encipher(key, rounds, &plain, &mut out);
     line(rt, b"encrypt ", key, rounds, &plain, &out)?;
-    cipher::decipher(key, rounds, &block, &mut out);
+    let _ = cipher::decipher(key, rounds, &block, &mut out);
     line(rt, b"decrypt ", key, rounds, &block, &out)?;
     Ok(x2)
 }
@@ -78,7 +78,7 @@ fn list_lines(rt: &impl Print, x: u64, list: &mut [u8], rounds: usize) -> io::Re
     if list.len() < 132 {
         return Ok(x2);
     }
-    engine::run(list, &plain, &mut out);
+    let _ = engine::run(list, &plain, &mut out);
     printing::word(rt, b"rounds ")?;
     printing::decimal(rt, rounds as u64)?;
     printing::space(rt)?;

@@ -2,7 +2,7 @@
 
 #![tactic(auto)]
 
-ghost use Rattle.std.specs.Prelude.{◌≡◌, ◌++◌, ◌+◌, ◌≤◌, length, get_or, take, drop, set};
+ghost use Rattle.std.specs.Prelude.{◌≡◌, ◌++◌, ◌+◌, ◌≤◌, length, take, drop};
 ghost use Rattle.block_bytes.specs.Blocks.{state_of, bytes_of};
 
 pub fn state_of(b: &[u8]) -> [[u8; 3]; 4]
@@ -17,24 +17,14 @@ pub fn state_of(b: &[u8]) -> [[u8; 3]; 4]
     ]
 }
 
-// A column put at a place of a lent slice.
-fn put_column(out: &mut [u8], at: usize, c: [u8; 3])
-    requires { at + 3 ≤ length out.old }
-    ensures { out.new ≡ set (set (set out.old at (get_or c 0 0)) (at + 1) (get_or c 1 0)) (at + 2) (get_or c 2 0) }
-{
-    out[at] = c[0];
-    out[at + 1] = c[1];
-    out[at + 2] = c[2];
-}
-
 pub fn write_state(out: &mut [u8], a: [[u8; 3]; 4])
     requires { 12 ≤ length out.old }
     ensures { out.new ≡ bytes_of a ++ drop 12 out.old }
 {
-    put_column(out, 0, a[0]);
-    put_column(out, 3, a[1]);
-    put_column(out, 6, a[2]);
-    put_column(out, 9, a[3]);
+    let [w, x, y, z] = a;
+    out[..12].copy_from_slice(&[
+        w[0], w[1], w[2], x[0], x[1], x[2], y[0], y[1], y[2], z[0], z[1], z[2],
+    ]);
 }
 
 // Bytes put at a place of a lent slice.
@@ -43,9 +33,5 @@ pub fn put_bytes(out: &mut [u8], at: usize, bytes: &[u8])
     ensures { out.new
         ≡ take at out.old ++ (bytes.now ++ drop (at + length bytes.now) out.old) }
 {
-    let mut i: usize = 0;
-    while i < bytes.len() {
-        out[at + i] = bytes[i];
-        i += 1;
-    }
+    out[at..at + bytes.len()].copy_from_slice(bytes);
 }

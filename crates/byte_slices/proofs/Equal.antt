@@ -9,7 +9,8 @@ use lib.Dec.{eqb}
 use lib.ListN.{length, get_or, drop, drop_of_length-le}
 use lib.Seq.{drop-cons}
 use borrow.Author.Tests.{eq-eqb, eqb-true}
-use Rattle.basics.proofs.Tests.{and_first, and_second, and_turned, and_true}
+use Rattle.std.proofs.Math.Bool.{and_assoc}
+use Rattle.basics.proofs.Tests.{and_first, and_second, and_true}
 use Rattle.byte_slices.specs.Slices.{same_bytes}
 
 pub same_equal : (a b : List ℕ) → same_bytes a b ≡ true → a ≡ b
@@ -41,19 +42,17 @@ same_length (x ∷ a) (y ∷ b) h = ap (λ (c : Bool). eqb x y && c) (same_lengt
     and_false false = refl
 
 -- ---- as a loop makes it: what was the same so far, and the rest
-pub same_next : (a b : List ℕ) (i : ℕ) (equal next test : Bool) → i < length a → length a ≡ length b
-    → test ≡ eqb (get_or a i 0) (get_or b i 0) → next ≡ (test && equal)
-    → same_bytes a b ≡ (equal && same_bytes (drop i a) (drop i b))
-    → same_bytes a b ≡ (next && same_bytes (drop (i + 1) a) (drop (i + 1) b))
-unfolding same_bytes
-same_next a b i equal next test h l et en e =
-    let s = add-one i in
-    e ∙ ap₂ (λ (x y : List ℕ). equal && same_bytes x y) (drop-cons a i 0 h) (drop-cons b i 0 (omega arith))
-    ∙ and_turned equal (eqb (get_or a i 0) (get_or b i 0)) (same_bytes (drop (suc i) a) (drop (suc i) b))
-    ∙ ap₂ (λ (c : Bool) (m : ℕ). c && same_bytes (drop m a) (drop m b)) (sym (en ∙ ap (λ (t : Bool). t && equal) et)) (sym s)
+module _ (a b : List ℕ) (i : ℕ) (equal : Bool) where
+  pub same_next : i < length a → length a ≡ length b
+      → (equal && same_bytes (drop i a) (drop i b))
+      ≡ ((equal && eqb (get_or a i 0) (get_or b i 0)) && same_bytes (drop (i + 1) a) (drop (i + 1) b))
+  unfolding same_bytes
+  same_next h l =
+      let m : i < length b = omega arith in
+      rw (add-one, drop-cons a i 0, drop-cons b i 0) (sym (and_assoc equal (eqb (get_or a i 0) (get_or b i 0)) (same_bytes (drop (suc i) a) (drop (suc i) b))))
 
-pub same_end : (a b : List ℕ) (i : ℕ) (equal : Bool) → length a ≤ i → length a ≡ length b
-    → same_bytes a b ≡ (equal && same_bytes (drop i a) (drop i b)) → equal ≡ same_bytes a b
-unfolding same_bytes
-same_end a b i equal h l e =
-    sym (e ∙ ap₂ (λ (x y : List ℕ). equal && same_bytes x y) (drop_of_length-le a {i = i} h) (drop_of_length-le b {i = i} (omega arith)) ∙ and_true equal)
+  pub same_end : length a ≤ i → length a ≡ length b → (equal && same_bytes (drop i a) (drop i b)) ≡ equal
+  unfolding same_bytes
+  same_end h l =
+      let m : length b ≤ i = omega arith in
+      rw (drop_of_length-le a, drop_of_length-le b) (and_true equal)

@@ -5,9 +5,7 @@
 ghost use Rattle.std.specs.Prelude.{◌≡◌, length, drop, replicate};
 ghost use Rattle.byte_slices.specs.Slices.{all_zero, same_bytes};
 
-use basics::both;
-
-// Whether two slices have the same bytes. Where they are of one length, every byte is looked at, wherever the first difference is.
+// Whether two slices have the same bytes. Where they are of one length, every byte is looked at, wherever the first difference is: the `&=` never stops.
 pub fn same(a: &[u8], b: &[u8]) -> bool
     ensures { result ≡ same_bytes a.now b.now }
 {
@@ -15,11 +13,8 @@ pub fn same(a: &[u8], b: &[u8]) -> bool
         return false;
     }
     let mut equal = true;
-    let mut i: usize = 0;
-    while i < a.len() {
-        let so_far = both(a[i] == b[i], equal);
-        equal = so_far;
-        i += 1;
+    for i in 0..a.len() {
+        equal &= a[i] == b[i];
     }
     equal
 }
@@ -28,25 +23,14 @@ pub fn same(a: &[u8], b: &[u8]) -> bool
 pub fn zeros_from(bytes: &[u8], n: usize) -> bool
     ensures { result ≡ all_zero (drop n bytes.now) }
 {
-    let mut i = n;
-    while i < bytes.len() {
-        if bytes[i] != 0 {
-            return false;
-        }
-        i += 1;
-    }
-    true
+    bytes.iter().skip(n).all(|&b| b == 0)
 }
 
 // Every byte becomes the one that is given.
 pub fn fill(bytes: &mut [u8], byte: u8)
     ensures { bytes.new ≡ replicate (length bytes.old) byte }
 {
-    let mut i: usize = 0;
-    while i < bytes.len() {
-        bytes[i] = byte;
-        i += 1;
-    }
+    bytes.fill(byte);
 }
 
 // Every byte becomes zero.

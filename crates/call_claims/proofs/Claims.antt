@@ -22,7 +22,7 @@ use Rattle.roll_bytes.proofs.Entries.{length-empty}
 use Rattle.roll_bytes.proofs.Claims.{bytes_tell_roll}
 use Rattle.histories.specs.Histories.{Change, enter, changed, roll_after, Withdrawn}
 use Rattle.histories.proofs.Calls.{zeros-small, empty_roll_lem}
-use Rattle.grant.specs.declared.Verdict.TheVariants.{Opens, Refused}
+use Rattle.std.specs.Prelude.{Ok, Err}
 use Rattle.size_blocks.specs.SizeBlocks.{is_size_block}
 use Rattle.rights.specs.Rights.{is_right}
 use Rattle.rights.proofs.Rights.{within_two}
@@ -52,9 +52,9 @@ codes_tell_verdicts = codes.codes_tell_verdicts
 
 pub checks_name_contractors : ChecksNameContractors
 unfolding ChecksNameContractors
-checks_name_contractors key rounds roll grant block right (Opens g) n c =
+checks_name_contractors key rounds roll grant block right (Ok g) n c =
     let h = checked_contractor key rounds roll grant block right (sym n) in (omega (arith, h.0, c), omega (arith, h.1, c))
-checks_name_contractors key rounds roll grant block right (Refused r) n c = tt
+checks_name_contractors key rounds roll grant block right (Err r) n c = tt
 
 pub call_in_order : CallInOrder
 unfolding CallInOrder

@@ -1,6 +1,6 @@
 -- What is claimed of the C calls: of the check's number, and of a store through lists of calls. A term of each type stands in
 -- proofs/Claims.antt.
-use Rattle.std.specs.Prelude.{true, false, ◌⊎◌, ◌≡◌, List, [], ◌∷◌, ℕ, ◌+◌, ◌*◌, ◌≤◌, ◌<◌, length, replicate}
+use Rattle.std.specs.Prelude.{true, false, ◌⊎◌, ◌≡◌, List, [], ◌∷◌, ℕ, ◌+◌, ◌*◌, ◌≤◌, ◌<◌, length, replicate, Ok, Err}
 use Rattle.basics.specs.Bytes.{AreBytes}
 use Rattle.refusal.specs.Tries.{first, answered}
 use Rattle.refusal.specs.Claims.{Ordered}
@@ -8,10 +8,8 @@ use Rattle.roll.specs.declared.Roll.{Roll}
 use Rattle.roll.specs.Roll.{empty_roll}
 use Rattle.roll_bytes.specs.RollBytes.{roll_length, roll_of, roll_bytes}
 use Rattle.histories.specs.Histories.{Change, enter, roll_after, Withdraws, Merge}
-use Rattle.grant.specs.declared.Verdict.{Verdict}
-use Rattle.grant.specs.declared.Verdict.TheVariants.{Opens, Refused}
 use Rattle.rights.specs.Rights.{is_right}
-use Rattle.grant.specs.Grants.{contractor_in, verdict_number, verdict_contractor}
+use Rattle.grant.specs.Grants.{Verdict, contractor_in, verdict_number, verdict_contractor}
 use Rattle.checking.specs.Checking.{opened_grant, check_number, check_contractor, check_right}
 use Rattle.revocation.specs.Claims.{Opening, ReadingGrant, Earlier, calls7}
 use Rattle.roll_calls.specs.RollCalls.{empty_call_tries, enter_call_tries, withdraw_call_tries, change_call_tries}
@@ -22,8 +20,8 @@ use Rattle.call_claims.specs.CallHistories.{bytes_after, CallWithdrawn, CallIssu
 -- ---- the check's number, and the order of all
 -- a verdict whose contractor, if it has one, is numbered 1 to 200
 abbrev pub OfContractor : Verdict → Type 0
-OfContractor (Opens g) = (1 ≤ g.contractor) × (g.contractor ≤ 200)
-OfContractor (Refused r) = Unit {0}
+OfContractor (Ok g) = (1 ≤ g.contractor) × (g.contractor ≤ 200)
+OfContractor (Err r) = Unit {0}
 
 -- no two such verdicts give the same number
 unfoldable pub CodesTellVerdicts : Type 0

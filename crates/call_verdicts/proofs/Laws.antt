@@ -55,10 +55,11 @@ module _ (key : List ℕ) (rounds : ℕ) (roll : List ℕ) (contractor block rig
       let ts = issue_call_tries key rounds roll contractor block right out in
       let cs = covered_tries right asked in
       let g = issued_grant key rounds (roll_of roll) contractor block right in
+      let t =
+      asked_of_issued key rounds (roll_of roll) contractor block right asked out (issued key rounds roll contractor block right out i) in
       as_issued key rounds roll contractor block right out i block asked
       ∙ is-check key rounds roll g block asked (long key rounds roll contractor block right out i)
-      ∙ told cs contractor asked _ _ _
-      (asked_of_issued key rounds (roll_of roll) contractor block right asked out (issued key rounds roll contractor block right out i))
+      ∙ told (first cs) asked contractor _ _ _ t.0 t.1.0 t.1.1
       ∙ ap (λ (n : ℕ). answered n (1000 * asked + contractor) n) (sym (first_then ts cs (all_pass ts refl i.number)))
 
   pub call_then_checked : issue_call_number key rounds roll contractor block right out ≡ 0

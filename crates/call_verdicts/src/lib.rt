@@ -37,6 +37,7 @@ pub fn call_issue_then_check(
         out.old }
 {
     let number = capi::gordzila_issue(key, rounds, roll, contractor, size_block, right, out);
+    // Kept: the C interface: gordzila_issue answers with a number, and `issued_code` is that number where it is no 0.
     if number != 0 {
         return number;
     }

@@ -94,7 +94,8 @@ pub fn gordzila_check_queue(
     ensures answers_after { answers.new ≡ call_queue_output key.now rounds roll.now grants.now size_block right
         answers.old }
 {
-    queue_call::check(key, rounds, roll, grants, size_block, right, answers)
+    let tried = queue_call::check(key, rounds, roll, grants, size_block, right, answers);
+    refusal::outcome_number(tried)
 }
 
 // Seals a page: 512 bytes to the output.
@@ -153,7 +154,7 @@ pub fn gordzila_empty_roll(out: &mut [u8]) -> u32
     ensures value { result ≡ empty_call_number out.old }
     ensures out_after { out.new ≡ empty_call_output out.old }
 {
-    roll_calls::empty_roll(out)
+    refusal::outcome_number(roll_calls::empty_roll(out))
 }
 
 // Enters a contractor with a highest right.
@@ -161,7 +162,7 @@ pub fn gordzila_enter(roll: &mut [u8], contractor: u32, right: u32) -> u32
     ensures value { result ≡ enter_call_number roll.old contractor right }
     ensures roll_after { roll.new ≡ enter_call_roll roll.old contractor right }
 {
-    roll_calls::enter(roll, contractor, right)
+    refusal::outcome_number(roll_calls::enter(roll, contractor, right))
 }
 
 // Withdraws a contractor.
@@ -169,7 +170,7 @@ pub fn gordzila_withdraw(roll: &mut [u8], contractor: u32) -> u32
     ensures value { result ≡ withdraw_call_number roll.old contractor }
     ensures roll_after { roll.new ≡ withdraw_call_roll roll.old contractor }
 {
-    roll_calls::withdraw(roll, contractor)
+    refusal::outcome_number(roll_calls::withdraw(roll, contractor))
 }
 
 // Changes the highest right of a contractor.
@@ -177,7 +178,7 @@ pub fn gordzila_change_right(roll: &mut [u8], contractor: u32, right: u32) -> u3
     ensures value { result ≡ change_call_number roll.old contractor right }
     ensures roll_after { roll.new ≡ change_call_roll roll.old contractor right }
 {
-    roll_calls::change_right(roll, contractor, right)
+    refusal::outcome_number(roll_calls::change_right(roll, contractor, right))
 }
 
 // Issues a grant: twelve bytes to the output.
@@ -194,7 +195,8 @@ pub fn gordzila_issue(
     ensures out_after { out.new ≡ issue_call_output key.now rounds roll.now contractor size_block right
         out.old }
 {
-    issue_call::issue(key, rounds, roll, contractor, size_block, right, out)
+    let tried = issue_call::issue(key, rounds, roll, contractor, size_block, right, out);
+    refusal::outcome_number(tried)
 }
 
 // A key's stage n: 24 bytes, with zeros past the key's length.
@@ -202,7 +204,7 @@ pub fn gordzila_stage(key: &[u8], n: u32, out: &mut [u8]) -> u32
     ensures value { result ≡ stage_call_number 24 key.now n out.old }
     ensures out_after { out.new ≡ stage_call_output key.now n out.old }
 {
-    stage_calls::stage(key, n, out)
+    refusal::outcome_number(stage_calls::stage(key, n, out))
 }
 
 // The subkey of a key's stage n: 12 bytes.
@@ -210,7 +212,7 @@ pub fn gordzila_subkey(key: &[u8], n: u32, out: &mut [u8]) -> u32
     ensures value { result ≡ stage_call_number 12 key.now n out.old }
     ensures out_after { out.new ≡ subkey_call_output key.now n out.old }
 {
-    stage_calls::subkey(key, n, out)
+    refusal::outcome_number(stage_calls::subkey(key, n, out))
 }
 
 // Makes a holder of a key at stage 0: 26 bytes.
@@ -218,7 +220,7 @@ pub fn gordzila_holder_make(key: &[u8], out: &mut [u8]) -> u32
     ensures value { result ≡ make_call_number key.now out.old }
     ensures out_after { out.new ≡ make_call_output key.now out.old }
 {
-    holder_calls::make(key, out)
+    refusal::outcome_number(holder_calls::make(key, out))
 }
 
 // Steps a holder forward.
@@ -226,7 +228,7 @@ pub fn gordzila_holder_forward(holder: &mut [u8]) -> u32
     ensures value { result ≡ step_call_number holder.old }
     ensures holder_after { holder.new ≡ step_call_holder Forward holder.old }
 {
-    holder_calls::forward(holder)
+    refusal::outcome_number(holder_calls::forward(holder))
 }
 
 // Steps a holder back.
@@ -234,7 +236,7 @@ pub fn gordzila_holder_back(holder: &mut [u8]) -> u32
     ensures value { result ≡ step_call_number holder.old }
     ensures holder_after { holder.new ≡ step_call_holder Back holder.old }
 {
-    holder_calls::back(holder)
+    refusal::outcome_number(holder_calls::back(holder))
 }
 
 // Walks a holder to stage n: the refusal number, or the steps plus 1,000 for forward and 2,000 for back.
@@ -250,5 +252,5 @@ pub fn gordzila_holder_subkey(holder: &[u8], out: &mut [u8]) -> u32
     ensures value { result ≡ held_subkey_number holder.now out.old }
     ensures out_after { out.new ≡ held_subkey_output holder.now out.old }
 {
-    holder_subkey_call::subkey(holder, out)
+    refusal::outcome_number(holder_subkey_call::subkey(holder, out))
 }

@@ -25,13 +25,11 @@ pub fn chain(list: &[u8], start: [[u8; 3]; 4], bytes: &mut [u8])
     ensures { bytes.new ≡ chained_bytes (enciphered (list_states list.now)) start bytes.old }
 {
     let mut previous = start;
-    let mut i: usize = 0;
-    while i < bytes.len() / 12 {
+    for i in 0..bytes.len() / 12 {
         let at = 12 * i;
         let next = next_block(list, previous, &bytes[at..at + 12]);
         blocks::write_state(&mut bytes[at..], next);
         previous = next;
-        i += 1;
     }
 }
 
@@ -41,12 +39,11 @@ pub fn last_of_chain(list: &[u8], start: [[u8; 3]; 4], bytes: &[u8]) -> [[u8; 3]
     ensures { result ≡ last_chained (enciphered (list_states list.now)) start bytes.now }
 {
     let mut last = start;
-    let mut i: usize = 0;
-    while i < bytes.len() / 12 {
+    for i in 0..bytes.len() / 12 {
         let at = 12 * i;
+        // Kept in two lines: of an array that a call lays straight in `last`, nothing can be proved yet.
         let next = next_block(list, last, &bytes[at..at + 12]);
         last = next;
-        i += 1;
     }
     last
 }

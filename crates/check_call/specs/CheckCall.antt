@@ -1,20 +1,18 @@
 -- What the C call of the check returns: document 01, "What the store calls", with the right asked for, as request 1 has it, and reason 3, as request 6
 -- has it. Its order is that of the check.
-use Rattle.std.specs.Prelude.{◌&&◌, List, ◌++◌, ℕ, ◌+◌, ◌*◌, eqb, length}
+use Rattle.std.specs.Prelude.{◌&&◌, List, ◌++◌, ℕ, ◌+◌, ◌*◌, eqb, length, Ok, Err}
 use Rattle.refusal.specs.Reasons.{reason_number}
 use Rattle.refusal.specs.Tries.{Try, first, answered}
 use Rattle.roll_bytes.specs.RollBytes.{roll_length, roll_of}
-use Rattle.grant.specs.declared.Verdict.{Verdict}
-use Rattle.grant.specs.declared.Verdict.TheVariants.{Opens, Refused}
 use Rattle.rights.specs.Rights.{right_number}
-use Rattle.grant.specs.Grants.{contractor_in}
+use Rattle.grant.specs.Grants.{Verdict, contractor_in}
 use Rattle.judging.specs.Judging.{input_tries, plain_tries}
 use Rattle.checking.specs.Checking.{opened_grant, entry_now}
 
 -- a verdict as a number: the refusal number, or 1,000 times the right plus the contractor
 abbrev pub verdict_code : Verdict → ℕ
-verdict_code (Opens g) = 1000 * right_number g.right + g.contractor
-verdict_code (Refused r) = reason_number r
+verdict_code (Ok g) = 1000 * right_number g.right + g.contractor
+verdict_code (Err r) = reason_number r
 
 -- the order line of the C call: that of the check, with 3 for the roll or the grant
 abbrev pub call_tries : List ℕ → ℕ → List ℕ → List ℕ → ℕ → ℕ → List Try

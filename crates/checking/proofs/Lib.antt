@@ -1,1 +1,2 @@
 pub mod KnownAnswers
+pub mod Parts

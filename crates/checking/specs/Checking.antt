@@ -1,7 +1,7 @@
 -- What checking a grant on a roll answers: document 01, "Roll and grant" and the order line "check 1, 2, 3, 7, 8, 9, 10, 20, 23",
 -- with 10 and the right that is answered as request 1 has them, 25 last, as request 6 has it, and 14 directly after 7, as request 7 has it: what is
 -- tried of the input, then of the plain bytes.
-use Rattle.std.specs.Prelude.{List, ◌++◌, ℕ, eqb, length}
+use Rattle.std.specs.Prelude.{Bool, ◌&&◌, List, ◌++◌, ℕ, eqb, length}
 use Rattle.refusal.specs.Tries.{Try, first, answered}
 use Rattle.key_lists.specs.declared.Direction.TheVariants.{Deciphering}
 use Rattle.cipher.specs.Cipher.{cipher_block}
@@ -22,6 +22,12 @@ entry_now key rounds roll grant = entry_of roll (contractor_in (opened_grant key
 abbrev pub check_tries : List ℕ → ℕ → Roll → List ℕ → ℕ → ℕ → List Try
 check_tries key rounds roll grant size_block right =
     input_tries (length key) rounds (eqb (length grant) 12) size_block right
+    ++ plain_tries (opened_grant key rounds grant) (entry_now key rounds roll grant) size_block right
+
+-- and where what holds the roll may not be a whole one: 3 is then tried of both lengths together
+abbrev pub check_tries_on : Bool → List ℕ → ℕ → Roll → List ℕ → ℕ → ℕ → List Try
+check_tries_on whole key rounds roll grant size_block right =
+    input_tries (length key) rounds (whole && eqb (length grant) 12) size_block right
     ++ plain_tries (opened_grant key rounds grant) (entry_now key rounds roll grant) size_block right
 
 abbrev pub check_number : List ℕ → ℕ → Roll → List ℕ → ℕ → ℕ → ℕ

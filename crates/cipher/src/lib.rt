@@ -13,9 +13,10 @@ ghost use Rattle.cipher.specs.ForProver.{Runnable};
 
 use filling::fill_for;
 use key_lists::Direction;
-use refusal::Outcome;
+use refusal::Reason;
 
 // A block under the key's list for a direction, for a caller that has tried key, round count and block.
+#[tactic(auto, using(key_lists::proofs::Lists::read_back))]
 pub fn state_under(direction: Direction, key: &[u8], rounds: u32, block: &[u8]) -> [[u8; 3]; 4]
     requires { Runnable (length key.now) rounds (length block.now) }
     ensures { result ≡ enciphered (list_for direction key.now rounds) (state_of block.now) }
@@ -28,24 +29,25 @@ pub fn state_under(direction: Direction, key: &[u8], rounds: u32, block: &[u8]) 
 }
 
 // A block under the list for a direction.
-fn run_block(direction: Direction, key: &[u8], rounds: u32, block: &[u8], out: &mut [u8]) -> Outcome
+#[tactic(auto, unfolding(refusal::specs::Tries::first, refusal::specs::Tries::written, crate::specs::Cipher::cipher_block))]
+fn run_block(
+    direction: Direction,
+    key: &[u8],
+    rounds: u32,
+    block: &[u8],
+    out: &mut [u8],
+) -> Result<(), Reason>
     ensures result_value { outcome_number result ≡ cipher_number key.now rounds block.now out.old }
     ensures out_after { out.new ≡ cipher_output direction key.now rounds block.now out.old }
 {
-    let tried = engine::try_block(
-        settings::try_settings(key.len(), rounds),
-        block.len(),
-        out.len(),
-    );
-    if refusal::is_refused(tried) {
-        return tried;
-    }
+    settings::try_settings(key.len(), rounds)?;
+    engine::try_block(block.len(), out.len())?;
     blocks::write_state(out, state_under(direction, key, rounds, block));
-    Outcome::Done
+    Ok(())
 }
 
 // Enciphers one block.
-pub fn encipher(key: &[u8], rounds: u32, block: &[u8], out: &mut [u8]) -> Outcome
+pub fn encipher(key: &[u8], rounds: u32, block: &[u8], out: &mut [u8]) -> Result<(), Reason>
     ensures result_value { outcome_number result ≡ cipher_number key.now rounds block.now out.old }
     ensures out_after { out.new ≡ cipher_output Enciphering key.now rounds block.now out.old }
 {
@@ -53,7 +55,7 @@ pub fn encipher(key: &[u8], rounds: u32, block: &[u8], out: &mut [u8]) -> Outcom
 }
 
 // Deciphers one block.
-pub fn decipher(key: &[u8], rounds: u32, block: &[u8], out: &mut [u8]) -> Outcome
+pub fn decipher(key: &[u8], rounds: u32, block: &[u8], out: &mut [u8]) -> Result<(), Reason>
     ensures result_value { outcome_number result ≡ cipher_number key.now rounds block.now out.old }
     ensures out_after { out.new ≡ cipher_output Deciphering key.now rounds block.now out.old }
 {

@@ -5,51 +5,39 @@
 #![tactic(auto)]
 
 use key_lists::Direction;
-use refusal::Outcome;
+use refusal::Reason;
 use std::io;
 
 const MARK: u8 = 165;
 
 // The end of a line: the number, and whether all bytes from `written` on, or all of them after a refusal, still bear the mark.
-fn answer(rt: &impl Print, outcome: Outcome, out: &[u8], written: usize) -> io::Result<()> {
-    let n = refusal::outcome_number(outcome);
-    printing::number(rt, n as u64)?;
-    printing::kept(rt, out, if n == 0 { written } else { 0 }, MARK)
+fn answer(
+    rt: &impl Print,
+    outcome: Result<(), Reason>,
+    out: &[u8],
+    written: usize,
+) -> io::Result<()> {
+    printing::number(rt, refusal::outcome_number(outcome) as u64)?;
+    printing::kept(rt, out, if outcome.is_ok() { written } else { 0 }, MARK)
 }
 
-fn encipher_line(rt: &(impl Print + Input)) -> io::Result<()> {
+// A call on a block, for a direction.
+fn cipher_line(rt: &(impl Print + Input), name: &[u8], direction: Direction) -> io::Result<()> {
     let key = [7u8; 32];
     let block = [9u8; 16];
     let mut out = [MARK; 32];
-    printing::word(rt, b"encipher")?;
+    printing::word(rt, name)?;
     let k = printing::echo(rt)?;
     let r = printing::echo_u32(rt)?;
     let b = printing::echo(rt)?;
     let o = printing::echo(rt)?;
-    let outcome = cipher::encipher(
-        printing::first(&key, k),
-        r,
-        printing::first(&block, b),
-        printing::first_mut(&mut out, o),
-    );
-    answer(rt, outcome, &out, 12)
-}
-
-fn decipher_line(rt: &(impl Print + Input)) -> io::Result<()> {
-    let key = [7u8; 32];
-    let block = [9u8; 16];
-    let mut out = [MARK; 32];
-    printing::word(rt, b"decipher")?;
-    let k = printing::echo(rt)?;
-    let r = printing::echo_u32(rt)?;
-    let b = printing::echo(rt)?;
-    let o = printing::echo(rt)?;
-    let outcome = cipher::decipher(
-        printing::first(&key, k),
-        r,
-        printing::first(&block, b),
-        printing::first_mut(&mut out, o),
-    );
+    let key = printing::first(&key, k);
+    let block = printing::first(&block, b);
+    let room = printing::first_mut(&mut out, o);
+    let outcome = match direction {
+        Direction::Enciphering => cipher::encipher(key, r, block, room),
+        Direction::Deciphering => cipher::decipher(key, r, block, room),
+    };
     answer(rt, outcome, &out, 12)
 }
 
@@ -86,16 +74,12 @@ fn run_line(rt: &(impl Print + Input)) -> io::Result<()> {
 }
 
 fn line(rt: &(impl Print + Input), call: u64) -> io::Result<()> {
-    if call == 1 {
-        encipher_line(rt)
-    } else if call == 2 {
-        decipher_line(rt)
-    } else if call == 3 {
-        prepare_line(rt, b"prepare_enciphering", Direction::Enciphering)
-    } else if call == 4 {
-        prepare_line(rt, b"prepare_deciphering", Direction::Deciphering)
-    } else {
-        run_line(rt)
+    match call {
+        1 => cipher_line(rt, b"encipher", Direction::Enciphering),
+        2 => cipher_line(rt, b"decipher", Direction::Deciphering),
+        3 => prepare_line(rt, b"prepare_enciphering", Direction::Enciphering),
+        4 => prepare_line(rt, b"prepare_deciphering", Direction::Deciphering),
+        _ => run_line(rt),
     }
 }
 

@@ -18,15 +18,15 @@ pub following_last : (t s : ℕ) → turn t ≤ suc s → following t s ≡ 0
 unfolding following
 following_last t s h = ap (λ (b : Bool). cond b (suc s) 0) (le-ltb (suc s) (turn t) h)
 
-pub preceding-back : (t s : ℕ) → 0 < s → preceding t s ≡ s - 1
+pub preceding_back : (t s : ℕ) → 0 < s → preceding t s ≡ s - 1
 unfolding preceding
-preceding-back t zero h = let z : ⊥ = omega arith in absurd z
-preceding-back t (suc s) h = omega arith
+preceding_back t zero h = let z : ⊥ = omega arith in absurd z
+preceding_back t (suc s) h = omega arith
 
-pub preceding-first : (t s : ℕ) → s ≤ 0 → preceding t s ≡ turn t - 1
+pub preceding_first : (t s : ℕ) → s ≤ 0 → preceding t s ≡ turn t - 1
 unfolding preceding
-preceding-first t zero h = refl
-preceding-first t (suc s) h = let z : ⊥ = omega arith in absurd z
+preceding_first t zero h = refl
+preceding_first t (suc s) h = let z : ⊥ = omega arith in absurd z
 
 -- both, counted around the turn
 pub following-is : (t s : ℕ) → s < turn t → following t s ≡ (s + 1) % turn t
@@ -45,8 +45,8 @@ preceding-below t (suc s) h = omega arith
 
 pub back_on : (t s : ℕ) → s < turn t → preceding t (following t s) ≡ s
 back_on t s h = elim (eq-or-lt_of_le h) [
-  | inl e ↦ ap (preceding t) (following_last t s (omega arith)) ∙ preceding-first t 0 (omega arith) ∙ omega arith
-  | inr l ↦ ap (preceding t) (following_on t s l) ∙ preceding-back t (suc s) (omega arith) ∙ omega arith
+  | inl e ↦ ap (preceding t) (following_last t s (omega arith)) ∙ preceding_first t 0 (omega arith) ∙ omega arith
+  | inr l ↦ ap (preceding t) (following_on t s l) ∙ preceding_back t (suc s) (omega arith) ∙ omega arith
 ]
 
 pub on_back : (t s : ℕ) → s < turn t → following t (preceding t s) ≡ s

@@ -3,12 +3,13 @@
 
 #![tactic(auto)]
 
-ghost use Rattle.std.specs.Prelude.{◌≡◌, ◌++◌, ◌*◌, ◌<◌, length, drop};
+ghost use Rattle.std.specs.Prelude.{◌≡◌, ◌++◌, ◌*◌, ◌<◌, drop};
 ghost use Rattle.sizes.specs.Sizes.{turn, Sized};
 ghost use Rattle.stages.specs.Stages.{stage_before};
 ghost use Rattle.cycle.specs.Cycle.{following, preceding};
 
 // The number after s around the turn.
+#[tactic(auto, unfolding(crate::specs::Cycle::following))]
 pub fn number_after(t: usize, s: usize) -> usize
     requires { Sized t × (s < turn t) }
     ensures { result ≡ following t s }
@@ -17,6 +18,7 @@ pub fn number_after(t: usize, s: usize) -> usize
 }
 
 // The number before s around the turn.
+#[tactic(auto, using(crate::proofs::Numbers::preceding_back, crate::proofs::Numbers::preceding_first))]
 pub fn number_before(t: usize, s: usize) -> usize
     requires { Sized t × (s < turn t) }
     ensures { result ≡ preceding t s }
@@ -26,7 +28,7 @@ pub fn number_before(t: usize, s: usize) -> usize
 
 // The stage before step s, in the place of the stage after it.
 pub fn previous_stage(t: usize, s: usize, k: &mut [u8; 24])
-    requires { Sized t × (length k.old ≡ 24) }
+    requires { Sized t }
     ensures { k.new ≡ stage_before t s k.old ++ drop (6 * t) k.old }
 {
     inverse::inverse_step(t, k);

@@ -89,14 +89,6 @@ pub back : {a : State} → IsState a → from_rows (row_words a) ≡ a
 back (built f h) = λ k. build (λ i j. get_or (get_or (bytes_of (f 0) (h 0) k ∷ bytes_of (f 1) (h 1) k ∷ bytes_of (f 2) (h 2) k ∷ []) i []) j 0)
 
 -- ---- what the code makes of its parts
-pub made_rows : (rows : List ℕ) (x y z : List ℕ) → x ≡ four_bytes (get_or rows 0 0) → y ≡ four_bytes (get_or rows 1 0) → z ≡ four_bytes (get_or rows 2 0)
-    → build (λ i j. get_or (get_or (x ∷ y ∷ z ∷ []) i []) j 0) ≡ from_rows rows
-made_rows rows x y z e₀ e₁ e₂ k = build (λ i j. get_or (get_or (e₀ k ∷ e₁ k ∷ e₂ k ∷ []) i []) j 0)
-
-pub made_words : (x y z s t : ℕ) → s ≡ doubled (bit_xor (bit_xor x y) z) → t ≡ doubled s
-    → bit_xor x s ∷ bit_xor y t ∷ bit_xor z (bit_xor s t) ∷ [] ≡ diffused_words x y z
-made_words x y z s t e d = three (ap (bit_xor x) e) (ap (bit_xor y) (d ∙ ap doubled e)) (ap (bit_xor z) (ap₂ bit_xor e (d ∙ ap doubled e)))
-
 -- x, y and z are the rows of a
 pub record Rows (a : State) (x y z : ℕ) : Type 0 where
   pub fits₀ : x < 2 ^ 32

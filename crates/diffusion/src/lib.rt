@@ -10,6 +10,7 @@ ghost use Rattle.diffusion.specs.Rows.{from_rows, diffused_words};
 use numbers::{four_bytes, four_from};
 
 // A row as a word, from its four columns: the word that has these four bytes, that of column 0 the highest.
+#[tactic(auto, using(numbers::proofs::Laws::bytes_again))]
 fn row_word(c0: u8, c1: u8, c2: u8, c3: u8) -> u32
     ensures { four_bytes result ≡ c0 ∷ c1 ∷ c2 ∷ c3 ∷ [] }
 {

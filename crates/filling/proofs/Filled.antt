@@ -1,11 +1,10 @@
 -- A subkey list as it is filled: from the front with the subkeys, and from the back with the turned ones.
-use mathlib.Core.Path.{◌≡◌, refl, sym, ap, ap₂, ◌∙◌}
+use mathlib.Core.Path.{◌≡◌, sym, ap, ap₂, ◌∙◌}
 use mathlib.Core.List.{List, ◌++◌}
 use Prim.Native.Nat.{ℕ, suc, ◌+◌, ◌*◌}
 use native.Mathlib.Omega.{arith}
 use native.Mathlib.Numerals.{add-one}
 use lib.ListN.{length, drop}
-use lib.Seq.{drop_at, drop-drop, drop-append-add}
 use Rattle.layers.specs.State.{State}
 use Rattle.rounds.specs.Rounds.{listed_from}
 use Rattle.rounds.proofs.Turned.{length-listed}
@@ -31,9 +30,9 @@ more key s =
     ∙ bytes_snoc (subkeys key s) (subkey key (0 + suc s))
     ∙ ap (λ (n : ℕ). list_bytes (subkeys key s) ++ bytes_of (subkey key n)) (omega arith)
 
-pub front_first : (key out₀ out : List ℕ) (k : State) → k ≡ subkey key 0 → out ≡ bytes_of k ++ drop 12 out₀ → out ≡ front key 0 out
+pub front_first : (key out : List ℕ) (k : State) → k ≡ subkey key 0 → overlaid 0 (bytes_of k) out ≡ front key 0 out
 unfolding front subkeys listed_from list_bytes
-front_first key out₀ out k ek eo = eo ∙ ap₂ ◌++◌ (ap bytes_of ek) (sym (ap (drop 12) eo ∙ drop_at (bytes_of k) (drop 12 out₀) 12 refl))
+front_first key out k ek = ap (λ (k : State). bytes_of k ++ drop 12 out) ek
 
 pub front_next : (key out₀ out : List ℕ) (s : ℕ) (k : State) → k ≡ subkey key (s + 1) → out ≡ front key s out₀
     → overlaid (12 * (s + 1)) (bytes_of k) out ≡ front key (s + 1) out₀
@@ -43,16 +42,3 @@ front_next key out₀ out s k ek eo =
     let e : 12 * (s + 1) + 12 ≡ 12 * (s + 1 + 1) = omega arith in
     next_put l (bytes_of k) out₀ out (12 * (s + 1)) (length_front_part key s) eo
     ∙ ap₂ (λ (x : List ℕ) (m : ℕ). x ++ drop m out₀) (ap (λ (k : State). l ++ bytes_of k) ek ∙ sym (more key s)) e
-
--- what stands behind the list is what stood there before the first subkey was written
-past : (b out : List ℕ) (s : ℕ) → length b ≡ 12 → drop (12 * (s + 1)) (b ++ drop 12 out) ≡ drop (12 * (s + 1)) out
-past b out s h =
-    let e : 12 * (s + 1) ≡ length b + 12 * s = omega arith in
-    let f : 12 + 12 * s ≡ 12 * (s + 1) = omega arith in
-    ap (λ (n : ℕ). drop n (b ++ drop 12 out)) e ∙ drop-append-add b (drop 12 out) (12 * s)
-    ∙ drop-drop (12 * s) 12 out ∙ ap (λ (n : ℕ). drop n out) f
-
-pub front_whole : (key out₀ out : List ℕ) (k : State) (s : ℕ) → out ≡ bytes_of k ++ drop 12 out₀ → front key s out ≡ front key s out₀
-unfolding front
-front_whole key out₀ out k s e =
-    ap (λ (x : List ℕ). list_bytes (subkeys key s) ++ x) (ap (drop (12 * (s + 1))) e ∙ past (bytes_of k) out₀ s refl)

@@ -1,5 +1,5 @@
 -- The turned list as it is filled from the back: the subkeys of stages 0 to s stand at places R down to R - s.
-use mathlib.Core.Path.{◌≡◌, refl, sym, ap, ap₂, ◌∙◌}
+use mathlib.Core.Path.{◌≡◌, sym, ap, ap₂, ◌∙◌}
 use mathlib.Core.Logic.{inl, inr}
 use mathlib.Core.Bool.{Bool, cond}
 use mathlib.Core.List.{List, [], ◌++◌, append_assoc, append-nil}
@@ -8,7 +8,7 @@ use native.Mathlib.Nat.{eq-or-lt_of_le}
 use native.Mathlib.Omega.{arith}
 use lib.Dec.{ltb}
 use lib.ListN.{length, take, drop, get_or}
-use lib.Seq.{take_at, drop_at, drop-drop, take-append-le, take-take, length-take-le, drop-cons, drop-length}
+use lib.Seq.{drop_at, drop-drop, take-append-le, take-take, length-take-le, drop-cons, drop-length}
 use borrow.Author.Tests.{lt-ltb, le-ltb}
 use Rattle.layers.specs.State.{State}
 use Rattle.layers.specs.Layers.{diffused}
@@ -62,31 +62,15 @@ module _ (key : List ℕ) (R : ℕ) where
   ended = let l = turned-length ks R ks_length in ap list_bytes (ap (λ (m : ℕ). drop m (turned ks)) (sym l) ∙ drop-length (turned ks))
 
   -- ---- the first subkey
-  module _ (out : List ℕ) (k : State) (room : 12 * (R + 1) ≤ length out) where
-    first-take : take (12 * R) (overlaid (12 * R) (bytes_of k) out) ≡ take (12 * R) out
-    first-take = take_at (take (12 * R) out) _ (12 * R) (length-take-le (12 * R) out (omega arith))
-
-    pub first-drop : drop (12 * (R + 1)) (overlaid (12 * R) (bytes_of k) out) ≡ drop (12 * (R + 1)) out
-    first-drop =
-        let e : 12 * (R + 1) ≡ 12 * R + 12 = omega arith in
-        ap (λ (m : ℕ). drop m (overlaid (12 * R) (bytes_of k) out)) e
-        ∙ sym (drop-drop 12 (12 * R) (overlaid (12 * R) (bytes_of k) out))
-        ∙ ap (drop 12) (drop_at (take (12 * R) out) _ (12 * R) (length-take-le (12 * R) out (omega arith)))
-        ∙ drop_at (bytes_of k) (drop 12 (drop (12 * R) out)) 12 refl
-        ∙ drop-drop 12 (12 * R) out
-        ∙ ap (λ (m : ℕ). drop m out) (sym e)
-
-    pub back-first : k ≡ subkey key 0 → overlaid (12 * R) (bytes_of k) out ≡ back 0 (overlaid (12 * R) (bytes_of k) out)
-    unfolding back ks
-    back-first ek =
-        let e : 12 * R + 12 ≡ 12 * (R + 1) = omega arith in
-        let z : R - 0 ≡ R = omega arith in
-        let o = overlaid (12 * R) (bytes_of k) out in
-        let rest = drop (12 * (R + 1)) o in
-        let last = ap (λ (x : List ℕ). bytes_of (get_or (turned ks) R []) ++ x) (sym ended) ∙ sym (listed R (omega arith)) in
-        ap₂ (λ (x y : List ℕ). x ++ (bytes_of k ++ y)) (sym first-take) (drop-drop 12 (12 * R) out ∙ ap (λ (m : ℕ). drop m out) e ∙ sym first-drop)
-        ∙ ap (λ (x : List ℕ). take (12 * R) o ++ (x ++ rest)) (ap bytes_of (ek ∙ sym turned_of_first) ∙ sym (append-nil _) ∙ last)
-        ∙ ap (λ (m : ℕ). take (12 * m) o ++ (list_bytes (drop m (turned ks)) ++ rest)) (sym z)
+  pub back-first : (out : List ℕ) (k : State) → k ≡ subkey key 0 → overlaid (12 * R) (bytes_of k) out ≡ back 0 out
+  unfolding back ks
+  back-first out k ek =
+      let e : 12 * R + 12 ≡ 12 * (R + 1) = omega arith in
+      let z : R ≡ R - 0 = omega arith in
+      let last = ap (λ (x : List ℕ). bytes_of (get_or (turned ks) R []) ++ x) (sym ended) ∙ sym (listed R (omega arith)) in
+      ap (λ (x : List ℕ). take (12 * R) out ++ (bytes_of k ++ x)) (drop-drop 12 (12 * R) out ∙ ap (λ (m : ℕ). drop m out) e)
+      ∙ ap (λ (x : List ℕ). take (12 * R) out ++ (x ++ drop (12 * (R + 1)) out)) (ap bytes_of (ek ∙ sym turned_of_first) ∙ sym (append-nil _) ∙ last)
+      ∙ ap (λ (m : ℕ). take (12 * m) out ++ (list_bytes (drop m (turned ks)) ++ drop (12 * (R + 1)) out)) z
 
   -- ---- the next one
   pub back-next : (s : ℕ) (out₀ out : List ℕ) (k : State) → s < R → 12 * (R + 1) ≤ length out₀

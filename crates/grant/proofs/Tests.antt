@@ -1,9 +1,9 @@
 -- What the test of a grant's plain bytes says.
 use mathlib.Core.Path.{◌≡◌, refl}
-use mathlib.Core.Bool.{true, ◌&&◌}
+use mathlib.Core.Bool.{true}
 use mathlib.Core.List.{List}
 use Prim.Native.Nat.{ℕ}
-use Rattle.basics.proofs.Tests.{and_first, and_second}
+use native.Mathlib.Omega.{arith}
 use Rattle.roll.specs.Roll.{is_contractor}
 use Rattle.rights.specs.Rights.{is_right}
 use Rattle.grant.specs.Grants.{contractor_in, right_in, is_marked, is_grant}
@@ -16,13 +16,7 @@ module _ (p : List ℕ) where
 
   pub a_grant : is_grant p ≡ true → Whole
   unfolding is_grant
-  a_grant e =
-      let r = and_second (is_marked p) (is_contractor (contractor_in p) && is_right (right_in p)) e in
-      record {
-        marked = and_first (is_marked p) (is_contractor (contractor_in p) && is_right (right_in p)) e;
-        contractor = and_first (is_contractor (contractor_in p)) (is_right (right_in p)) r;
-        right = and_second (is_contractor (contractor_in p)) (is_right (right_in p)) r;
-      }
+  a_grant e = record { marked = grind arith; contractor = grind arith; right = grind arith }
 
   pub is-grant : Whole → is_grant p ≡ true
   unfolding is_grant

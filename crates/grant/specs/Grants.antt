@@ -1,11 +1,11 @@
 -- Grants and verdicts: document 01, "Roll and grant". A grant's plain bytes name contractor, count, size block and right.
-use Rattle.std.specs.Prelude.{Bool, ◌&&◌, List, [], ◌∷◌, ◌++◌, ℕ, eqb, get_or}
+use Rattle.std.specs.Prelude.{Bool, ◌&&◌, List, [], ◌∷◌, ◌++◌, ℕ, eqb, get_or, Result, Ok, Err}
+use Rattle.refusal.specs.declared.Reason.{Reason}
 use Rattle.refusal.specs.Reasons.{reason_number}
 use Rattle.numbers.specs.Numbers.{two_from, four_from, two_bytes, four_bytes}
 use Rattle.roll.specs.Roll.{is_contractor}
 use Rattle.rights.specs.Rights.{right_number, is_right}
-use Rattle.grant.specs.declared.Verdict.{Verdict}
-use Rattle.grant.specs.declared.Verdict.TheVariants.{Opens, Refused}
+use Rattle.grant.specs.declared.Grant.{Grant}
 
 -- ---- plain bytes, numbers big end first
 -- 2 contractor, 2 count, 4 size block number, 1 right, then 47 52 44
@@ -33,17 +33,20 @@ is_marked p = eqb (get_or p 9 0) 0x47 && (eqb (get_or p 10 0) 0x52 && eqb (get_o
 unfoldable pub is_grant : List ℕ → Bool
 is_grant p = is_marked p && (is_contractor (contractor_in p) && is_right (right_in p))
 
--- ---- verdicts: document 01's number of each case, and the values that it holds
+-- ---- verdicts: a grant that opens, or the reason why it is refused; document 01's number of each case, and the values that it holds
+abbrev pub Verdict : Type 0
+Verdict = Result Grant Reason
+
 -- the refusal number, 0 where the grant opens
 abbrev pub verdict_number : Verdict → ℕ
-verdict_number (Opens g) = 0
-verdict_number (Refused r) = reason_number r
+verdict_number (Ok g) = 0
+verdict_number (Err r) = reason_number r
 
 -- where the grant opens, its contractor and the right that was asked for; 0 where it does not
 abbrev pub verdict_contractor : Verdict → ℕ
-verdict_contractor (Opens g) = g.contractor
-verdict_contractor (Refused r) = 0
+verdict_contractor (Ok g) = g.contractor
+verdict_contractor (Err r) = 0
 
 abbrev pub verdict_right : Verdict → ℕ
-verdict_right (Opens g) = right_number g.right
-verdict_right (Refused r) = 0
+verdict_right (Ok g) = right_number g.right
+verdict_right (Err r) = 0

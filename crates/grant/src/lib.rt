@@ -9,15 +9,11 @@ use refusal::Reason;
 use rights::Right;
 
 // What an accepted check answers with: the grant's contractor, and the right that was asked for.
-#[derive(Clone, Copy)]
+#[derive(Clone, Copy, Debug, PartialEq, Eq)]
 pub struct Grant {
     pub contractor: u32,
     pub right: Right,
 }
 
 // What a check answers.
-#[derive(Clone, Copy)]
-pub enum Verdict {
-    Opens(Grant),
-    Refused(Reason),
-}
+pub type Verdict = Result<Grant, Reason>;

@@ -5,9 +5,8 @@
 #![tactic(auto)]
 
 use grant::Verdict;
-use refusal::Outcome;
+use refusal::Reason;
 use roll::Roll;
-use roll_changes::Changed;
 use std::io;
 
 const MARK: u8 = 165;
@@ -16,7 +15,7 @@ fn count(rt: &impl Print, n: u16) -> io::Result<()> {
     printing::number(rt, n as u64)
 }
 
-fn outcome(rt: &impl Print, o: Outcome) -> io::Result<u32> {
+fn outcome(rt: &impl Print, o: Result<(), Reason>) -> io::Result<u32> {
     let n = refusal::outcome_number(o);
     printing::number(rt, n as u64)?;
     Ok(n)
@@ -24,14 +23,13 @@ fn outcome(rt: &impl Print, o: Outcome) -> io::Result<u32> {
 
 fn verdict(rt: &impl Print, v: Verdict) -> io::Result<()> {
     match v {
-        Verdict::Opens(g) => {
-            let right = g.right;
+        Ok(g) => {
             printing::number(rt, 0)?;
             printing::number(rt, g.contractor as u64)?;
-            printing::number(rt, rights::right_number(right) as u64)?;
+            printing::number(rt, u32::from(g.right) as u64)?;
         }
-        Verdict::Refused(reason) => {
-            printing::number(rt, refusal::reason_number(reason) as u64)?;
+        Err(reason) => {
+            printing::number(rt, u32::from(reason) as u64)?;
             printing::word(rt, b" 0 0")?;
         }
     }
@@ -98,13 +96,12 @@ fn figure(rt: &impl Print, n: u8) -> io::Result<()> {
     printing::number(rt, n as u64)
 }
 
-// The counts of contractors 1, 2 and 200 after a call, and then their figures.
-fn changed(rt: &impl Print, r: Changed) -> io::Result<()> {
-    let o = r.outcome;
-    let after = r.roll;
+// The counts of contractors 1, 2 and 200 after a call, which leaves the roll as it was where it refuses, and then their figures.
+fn changed(rt: &impl Print, roll: Roll, answer: Result<Roll, Reason>) -> io::Result<()> {
+    let after = answer.unwrap_or(roll);
     let counts = after.counts;
     let rights = after.rights;
-    outcome(rt, o)?;
+    outcome(rt, answer.map(|_| ()))?;
     count(rt, counts[0])?;
     count(rt, counts[1])?;
     count(rt, counts[199])?;
@@ -119,7 +116,7 @@ fn enter_line(rt: &(impl Print + Input)) -> io::Result<()> {
     let roll = echo_roll(rt)?;
     let c = printing::echo_u32(rt)?;
     let right = printing::echo_u32(rt)?;
-    changed(rt, roll_changes::enter(roll, c, right))
+    changed(rt, roll, roll_changes::enter(roll, c, right))
 }
 
 fn right_line(rt: &(impl Print + Input)) -> io::Result<()> {
@@ -127,21 +124,21 @@ fn right_line(rt: &(impl Print + Input)) -> io::Result<()> {
     let roll = echo_roll(rt)?;
     let c = printing::echo_u32(rt)?;
     let right = printing::echo_u32(rt)?;
-    changed(rt, roll_changes::change_right(roll, c, right))
+    changed(rt, roll, roll_changes::change_right(roll, c, right))
 }
 
 fn withdraw_line(rt: &(impl Print + Input)) -> io::Result<()> {
     printing::word(rt, b"withdraw")?;
     let roll = echo_roll(rt)?;
     let c = printing::echo_u32(rt)?;
-    changed(rt, roll_changes::withdraw(roll, c))
+    changed(rt, roll, roll_changes::withdraw(roll, c))
 }
 
 // The size block that stands in a grant, which a key with a round count deciphers.
-fn named_block(key: &[u8], rounds: u32, grant: &[u8]) -> u32 {
+fn named_block(key: &[u8], rounds: u32, issued: &[u8]) -> u32 {
     let mut plain = [0u8; 12];
-    cipher::decipher(key, rounds, grant, &mut plain);
-    numbers::four_from(plain[4], plain[5], plain[6], plain[7])
+    let _ = cipher::decipher(key, rounds, issued, &mut plain);
+    grant::size_block_in(&plain)
 }
 
 // An issue, and the size block that stands in what was issued.
@@ -213,7 +210,7 @@ fn check_line(rt: &(impl Print + Input)) -> io::Result<()> {
     let right = printing::echo_u32(rt)?;
     let looked = echo_looked(rt)?;
     let plain = echo_plain(rt, looked.contractor)?;
-    cipher::encipher(printing::first(&key, 12), 10, &plain, &mut grant);
+    let _ = cipher::encipher(printing::first(&key, 12), 10, &plain, &mut grant);
     verdict(
         rt,
         checking::check(
@@ -228,16 +225,12 @@ fn check_line(rt: &(impl Print + Input)) -> io::Result<()> {
 }
 
 fn line(rt: &(impl Print + Input), call: u64) -> io::Result<()> {
-    if call == 1 {
-        enter_line(rt)
-    } else if call == 2 {
-        right_line(rt)
-    } else if call == 3 {
-        withdraw_line(rt)
-    } else if call == 4 {
-        issue_line(rt)
-    } else {
-        check_line(rt)
+    match call {
+        1 => enter_line(rt),
+        2 => right_line(rt),
+        3 => withdraw_line(rt),
+        4 => issue_line(rt),
+        _ => check_line(rt),
     }
 }
 

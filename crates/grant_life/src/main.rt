@@ -5,13 +5,12 @@
 #![tactic(auto)]
 
 use grant::Verdict;
-use refusal::Outcome;
+use refusal::Reason;
 use roll::Roll;
-use roll_changes::Changed;
 use std::io;
 
 // What a life is about.
-#[derive(Clone, Copy)]
+#[derive(Clone, Copy, Debug, PartialEq, Eq)]
 pub struct Life {
     pub rounds: u32,
     pub contractor: u32,
@@ -31,7 +30,7 @@ fn number(rt: &impl Print, n: u32) -> io::Result<()> {
     printing::decimal(rt, n as u64)
 }
 
-fn outcome(rt: &impl Print, o: Outcome) -> io::Result<u32> {
+fn outcome(rt: &impl Print, o: Result<(), Reason>) -> io::Result<u32> {
     let n = refusal::outcome_number(o);
     number(rt, n)?;
     Ok(n)
@@ -39,14 +38,13 @@ fn outcome(rt: &impl Print, o: Outcome) -> io::Result<u32> {
 
 fn verdict(rt: &impl Print, v: Verdict) -> io::Result<()> {
     match v {
-        Verdict::Opens(g) => {
-            let right = g.right;
+        Ok(g) => {
             number(rt, 0)?;
             number(rt, g.contractor)?;
-            number(rt, rights::right_number(right))?;
+            number(rt, u32::from(g.right))?;
         }
-        Verdict::Refused(reason) => {
-            number(rt, refusal::reason_number(reason))?;
+        Err(reason) => {
+            number(rt, u32::from(reason))?;
             number(rt, 0)?;
             number(rt, 0)?;
         }
@@ -54,29 +52,32 @@ fn verdict(rt: &impl Print, v: Verdict) -> io::Result<()> {
     printing::newline(rt)
 }
 
-fn changed(rt: &impl Print, r: Changed) -> io::Result<Roll> {
-    let o = r.outcome;
-    let after = r.roll;
-    outcome(rt, o)?;
+// The roll after a call that may refuse, and then leaves it as it was.
+fn changed(rt: &impl Print, roll: Roll, answer: Result<Roll, Reason>) -> io::Result<Roll> {
+    outcome(rt, answer.map(|_| ()))?;
     printing::newline(rt)?;
-    Ok(after)
+    Ok(answer.unwrap_or(roll))
 }
 
 fn enter_line(rt: &impl Print, l: Life, roll: Roll) -> io::Result<Roll> {
     printing::word(rt, b"enter")?;
     number(rt, l.right)?;
-    changed(rt, roll_changes::enter(roll, l.contractor, l.right))
+    changed(rt, roll, roll_changes::enter(roll, l.contractor, l.right))
 }
 
 fn right_line(rt: &impl Print, l: Life, roll: Roll, highest: u32) -> io::Result<Roll> {
     printing::word(rt, b"right")?;
     number(rt, highest)?;
-    changed(rt, roll_changes::change_right(roll, l.contractor, highest))
+    changed(
+        rt,
+        roll,
+        roll_changes::change_right(roll, l.contractor, highest),
+    )
 }
 
 fn withdraw_line(rt: &impl Print, l: Life, roll: Roll) -> io::Result<Roll> {
     printing::word(rt, b"withdraw")?;
-    changed(rt, roll_changes::withdraw(roll, l.contractor))
+    changed(rt, roll, roll_changes::withdraw(roll, l.contractor))
 }
 
 fn issue_line(
@@ -130,7 +131,7 @@ fn next_block_line(
     roll: Roll,
     grant: [u8; 12],
 ) -> io::Result<()> {
-    let next = ((l.size_block as u64 + 1) % 4294967296) as u32;
+    let next = l.size_block.wrapping_add(1);
     printing::word(rt, b"check")?;
     number(rt, l.right)?;
     verdict(
@@ -150,7 +151,7 @@ fn damaged_line(
 ) -> io::Result<()> {
     let mut bytes = grant;
     let p = at % 12;
-    bytes[p] = bytes[p] ^ 1;
+    bytes[p] ^= 1;
     printing::word(rt, b"damaged")?;
     number(rt, p as u32)?;
     verdict(
@@ -243,19 +244,14 @@ fn life_lines(rt: &impl Print, key: &[u8], l: Life) -> io::Result<()> {
     damaged_lines(rt, key, l, r6, second)
 }
 
-// A number of four bytes, big end first.
-fn number_of(a: u8, b: u8, c: u8, d: u8) -> u32 {
-    16777216 * (a as u32) + (65536 * (b as u32) + (256 * (c as u32) + d as u32))
-}
-
 // A key, a contractor, a size block and a right from the generator.
 fn one_life(rt: &impl Print, x: u64, key: &mut [u8], rounds: u32) -> io::Result<u64> {
     let mut drawn = [0u8; 6];
     let x1 = printing::draw(x, key);
     let x2 = printing::draw(x1, &mut drawn);
-    let size_block = number_of(drawn[1], drawn[2], drawn[3], drawn[4]);
-    let who = number_of(0, 0, 0, drawn[0]);
-    let what = number_of(0, 0, 0, drawn[5]);
+    let size_block = u32::from_be_bytes([drawn[1], drawn[2], drawn[3], drawn[4]]);
+    let who = u32::from(drawn[0]);
+    let what = u32::from(drawn[5]);
     life_lines(
         rt,
         key,
@@ -270,16 +266,8 @@ fn one_life(rt: &impl Print, x: u64, key: &mut [u8], rounds: u32) -> io::Result<
 }
 
 fn life_of(rt: &impl Print, x: u64, length: usize, rounds: u32) -> io::Result<u64> {
-    if length == 12 {
-        let mut key = [0u8; 12];
-        return one_life(rt, x, &mut key, rounds);
-    }
-    if length == 18 {
-        let mut key = [0u8; 18];
-        return one_life(rt, x, &mut key, rounds);
-    }
     let mut key = [0u8; 24];
-    one_life(rt, x, &mut key, rounds)
+    one_life(rt, x, printing::first_mut(&mut key, length), rounds)
 }
 
 // Four lives for each round count from least to most.

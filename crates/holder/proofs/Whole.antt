@@ -15,7 +15,7 @@ use Rattle.stages.specs.Stages.{linear_step, stage_after, stage_before}
 use Rattle.stages.proofs.Columns.{length-columns}
 use Rattle.sizes.proofs.Keys.{a_key}
 use Rattle.stages.proofs.Keys.{key-length, length-stage}
-use Rattle.stages.proofs.Padded.{length-plus, length-padded}
+use Rattle.stages.proofs.Padded.{length-plus}
 use Rattle.basics.specs.Repeated.{repeated}
 use Rattle.cycle.specs.Cycle.{following, preceding}
 use Rattle.cycle.proofs.Numbers.{following-below, preceding-below}
@@ -67,9 +67,6 @@ module _ (h : Holder) (e : whole h ≡ true) where
   pub number_asks : Sized (t_held h) × (h.number < turn (t_held h))
   number_asks = let w = a_whole h e in (size-held h w, w.below)
 
-  pub step_asks : length h.bytes ≡ 24 → Sized (t_held h) × (length h.bytes ≡ 24)
-  step_asks l = (number_asks.0, l)
-
   module _ (l : length h.bytes ≡ 24) (way : Way) (n : ℕ) (b : List ℕ) where
     padded-held : (x : List ℕ) → length x ≡ 3 * (2 * t_held h) → b ≡ x ++ drop (6 * t_held h) h.bytes → b ≡ padded x
     padded-held x ex eb =
@@ -109,14 +106,6 @@ pub step_whole : (way : Way) (h : Holder) → whole h ≡ true → whole (steppe
 unfolding stepped
 step_whole Forward h e = is_whole (onward h) (onward-whole h (a_whole h e))
 step_whole Back h e = is_whole (backward h) (backward-whole h (a_whole h e))
-
--- and a step leaves 24 bytes
-pub step_length : (way : Way) (h : Holder) → whole h ≡ true → length (stepped way h).bytes ≡ 24
-unfolding stepped onward backward
-step_length Forward h e =
-    length-padded _ (omega (arith, length-after (t_held h) (h.number + 1) h.bytes, (size-held h (a_whole h e)).most))
-step_length Back h e =
-    length-padded _ (omega (arith, length_before (t_held h) (preceding (t_held h) h.number + 1) h.bytes, (size-held h (a_whole h e)).most))
 
 pub steps-whole : (way : Way) (m : ℕ) (h : Holder) → whole h ≡ true → whole (repeated m (stepped way) h) ≡ true
 steps-whole way zero h w = w

@@ -3,15 +3,12 @@
 
 #![tactic(auto)]
 
-ghost use Rattle.std.specs.Prelude.{◌≡◌, true, length};
+ghost use Rattle.std.specs.Prelude.{◌≡◌, true};
 ghost use Rattle.basics.specs.Repeated.{repeated};
 ghost use Rattle.holder.specs.Holder.{holding, whole, blank, stepped};
 
-use basics::both;
-use refusal::Outcome;
-
 // A key's length, a stage's number and its bytes, with zeros past the key's length.
-#[derive(Clone, Copy)]
+#[derive(Clone, Copy, Debug, PartialEq, Eq)]
 pub struct Holder {
     pub length: usize,
     pub number: usize,
@@ -19,47 +16,40 @@ pub struct Holder {
 }
 
 // The direction of a step or a walk.
-#[derive(Clone, Copy)]
+#[derive(Clone, Copy, Debug, PartialEq, Eq)]
 pub enum Way {
     Forward,
     Back,
 }
 
-// What making a holder, giving a stage straight from the key, and a step answer.
-#[derive(Clone, Copy)]
-pub struct HolderAnswer {
-    pub outcome: Outcome,
-    pub holder: Holder,
-}
+// A holder that no key gives: every call refuses it.
+#[tactic(auto, unfolding(crate::specs::Holder::blank))]
+impl Default for Holder {
+    ghost is_default = { λ h. h ≡ blank };
 
-// A holder that is not refused with 24.
-pub fn is_whole(h: Holder) -> bool
-    ensures { result ≡ whole h }
-{
-    let length = h.length;
-    let number = h.number;
-    let bytes = h.bytes;
-    let below = number < sizes::turn_of_key(length);
-    both(
-        sizes::is_key_length(length),
-        both(below, byte_slices::zeros_from(&bytes, length)),
-    )
-}
-
-// What stands in a holder's place where none is made.
-pub fn blank_holder() -> Holder
-    ensures { result ≡ blank }
-{
-    Holder {
-        length: 0,
-        number: 0,
-        bytes: [0u8; 24],
+    fn default() -> Holder {
+        Holder {
+            length: 0,
+            number: 0,
+            bytes: [0u8; 24],
+        }
     }
 }
 
+// A holder that is not refused with 24.
+#[tactic(auto, unfolding(crate::specs::Holder::whole))]
+pub fn is_whole(h: Holder) -> bool
+    ensures { result ≡ whole h }
+{
+    sizes::is_key_length(h.length)
+        && h.number < sizes::turn_of_key(h.length)
+        && byte_slices::zeros_from(&h.bytes, h.length)
+}
+
 // One step, the way that is told, of a stage of a key of n bytes, in its place; the answer is the number of the stage that it leads to.
+#[tactic(auto, using(crate::proofs::Whole::step_on, crate::proofs::Whole::step_back))]
 fn step_bytes(way: Way, n: usize, number: usize, bytes: &mut [u8; 24]) -> usize
-    requires { (whole (holding n number bytes.old) ≡ true) × (length bytes.old ≡ 24) }
+    requires { whole (holding n number bytes.old) ≡ true }
     ensures { holding n result bytes.new ≡ stepped way (holding n number bytes.old) }
 {
     let t = n / 6;
@@ -84,11 +74,8 @@ pub fn steps(way: Way, count: usize, h: Holder) -> Holder
     let length = h.length;
     let mut number = h.number;
     let mut bytes = h.bytes;
-    let mut i: usize = 0;
-    while i < count {
-        let next = step_bytes(way, length, number, &mut bytes);
-        number = next;
-        i += 1;
+    for _ in 0..count {
+        number = step_bytes(way, length, number, &mut bytes);
     }
     Holder {
         length,

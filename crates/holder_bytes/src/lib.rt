@@ -2,24 +2,28 @@
 
 #![tactic(auto)]
 
-ghost use Rattle.std.specs.Prelude.{◌≡◌, ◌++◌, drop};
+ghost use Rattle.std.specs.Prelude.{◌≡◌, ◌++◌, length, drop, Ok};
+ghost use Rattle.std.specs.Result.{result_unwrap_or};
 ghost use Rattle.refusal.specs.Reasons.{outcome_number};
 ghost use Rattle.refusal.specs.Tries.{written};
-ghost use Rattle.holder_bytes.specs.HolderBytes.{holder_length, holder_of, holder_bytes};
+ghost use Rattle.holder.specs.declared.Holder.{Holder};
+ghost use Rattle.holder.specs.Holder.{blank};
+ghost use Rattle.holder_bytes.specs.HolderBytes.{holder_of, holder_bytes};
 ghost use Rattle.holder_bytes.specs.ForProver.{Writable};
 
 use holder::Holder;
-use refusal::Outcome;
+use refusal::Reason;
 
 // The bytes of a holder as hosts lend it.
 pub const HOLDER_BYTES: usize = 26;
 
 // The holder that the bytes hold; a blank one where they are not 26.
+#[tactic(auto, using(crate::proofs::Lent::stage_read), unfolding(crate::specs::HolderBytes::holder_of))]
 pub fn read(lent: &[u8]) -> Holder
     ensures { result ≡ holder_of lent.now }
 {
     if lent.len() != HOLDER_BYTES {
-        return holder::blank_holder();
+        return Holder::default();
     }
     Holder {
         length: lent[0] as usize,
@@ -29,27 +33,23 @@ pub fn read(lent: &[u8]) -> Holder
 }
 
 // The bytes of a holder, put at the start of what is lent.
-fn write(out: &mut [u8], h: Holder)
+#[tactic(auto, using(crate::proofs::Lent::small), unfolding(crate::specs::HolderBytes::holder_bytes))]
+pub fn write(out: &mut [u8], h: Holder)
     requires { Writable h out.old }
-    ensures { out.new ≡ holder_bytes h ++ drop holder_length out.old }
+    ensures { out.new ≡ holder_bytes h ++ drop (length (holder_bytes h)) out.old }
 {
-    let length = h.length;
-    let number = h.number;
-    let bytes = h.bytes;
-    out[0] = length as u8;
-    out[1] = number as u8;
-    blocks::put_bytes(out, 2, &bytes);
+    out[0] = h.length as u8;
+    out[1] = h.number as u8;
+    blocks::put_bytes(out, 2, &h.bytes);
 }
 
-// What a call answers on lent bytes: its number, and the holder written there unless it was refused.
-pub fn answer(lent: &mut [u8], outcome: Outcome, h: Holder) -> u32
-    requires { outcome_number outcome ≡ 0 → Writable h lent.old }
-    ensures value { result ≡ outcome_number outcome }
-    ensures lent_after { lent.new ≡ written (outcome_number outcome) (holder_bytes h) lent.old }
+// What a call on lent bytes answers: the holder is written there unless it was refused.
+#[tactic(auto, unfolding(refusal::specs::Tries::written))]
+pub fn answer(lent: &mut [u8], answer: Result<Holder, Reason>) -> Result<(), Reason>
+    requires { (h : Holder) → answer ≡ Ok h → Writable h lent.old }
+    ensures value { outcome_number result ≡ outcome_number answer }
+    ensures lent_after { lent.new ≡ written (outcome_number answer) (holder_bytes (result_unwrap_or answer blank)) lent.old }
 {
-    if refusal::is_refused(outcome) {
-        return refusal::outcome_number(outcome);
-    }
-    write(lent, h);
-    0
+    write(lent, answer?);
+    Ok(())
 }

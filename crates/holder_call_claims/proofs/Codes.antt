@@ -3,6 +3,7 @@ use mathlib.Core.Path.{◌≡◌, refl, sym, ◌∙◌}
 use Prim.Native.Nat.{ℕ, zero, suc, ◌+◌, ◌≤◌, ◌<◌}
 use native.Mathlib.Omega.{arith}
 use Rattle.refusal.specs.Tries.{answered}
+use Rattle.refusal.proofs.Answers.{not_answered}
 use Rattle.refusal.proofs.Ladder.{first_small}
 use Rattle.holder.specs.declared.Holder.{Holder}
 use Rattle.holder.specs.declared.Way.{Way}
@@ -10,7 +11,6 @@ use Rattle.holder.specs.declared.Way.TheVariants.{Forward, Back}
 use Rattle.holder_walk.specs.Walk.{walk_tries, walk_number}
 use Rattle.holder_walk.proofs.Walks.{walk-few, walk_refused}
 use Rattle.holder_walk_call.specs.WalkCall.{way_code, walk_code}
-use Rattle.holder_walk_call.proofs.Walks.{code-refused}
 use Rattle.holder_call_claims.specs.HolderRoutes.{WalkAnswer, walk_answer}
 use Rattle.holder_call_claims.specs.Claims.{OfWalk}
 
@@ -43,7 +43,7 @@ an n steps way = record { number = n; steps = steps; way = way }
 
 -- a refusal's number is the answer
 refused-code : (n s : ℕ) (w : Way) → suc n ≡ walk_code (suc n) s w
-refused-code n s w = code-refused (suc n) s w (λ e. omega (arith, e))
+refused-code n s w = not_answered (suc n) (way_code w + s) (suc n) (omega arith)
 
 pub codes_tell : (m n s r : ℕ) (v w : Way) → OfWalk (an m s v) → OfWalk (an n r w) → walk_code m s v ≡ walk_code n r w → an m s v ≡ an n r w
 unfolding answered

@@ -4,12 +4,21 @@
 
 #![tactic(auto)]
 
-use holder::{Holder, HolderAnswer, Way};
-use refusal::Outcome;
+use holder::{Holder, Way};
+use holder_walk::Walked;
+use refusal::Reason;
 use std::io;
 
-fn outcome(rt: &impl Print, o: Outcome) -> io::Result<()> {
-    printing::number(rt, refusal::outcome_number(o) as u64)
+// A refusal's number, or 0, and what stands for the answer.
+fn answered<T: Drop>(answer: Result<T, Reason>, refused: T) -> (u32, T) {
+    match answer {
+        Ok(done) => (0, done),
+        Err(reason) => (u32::from(reason), refused),
+    }
+}
+
+fn number(rt: &impl Print, n: u32) -> io::Result<()> {
+    printing::number(rt, n as u64)
 }
 
 fn way(rt: &impl Print, w: Way) -> io::Result<()> {
@@ -26,10 +35,9 @@ fn held(rt: &impl Print, h: Holder) -> io::Result<()> {
     printing::newline(rt)
 }
 
-fn made(rt: &impl Print, r: HolderAnswer) -> io::Result<()> {
-    let o = r.outcome;
-    let h = r.holder;
-    outcome(rt, o)?;
+fn made(rt: &impl Print, answer: Result<Holder, Reason>) -> io::Result<()> {
+    let (n, h) = answered(answer, Holder::default());
+    number(rt, n)?;
     held(rt, h)
 }
 
@@ -48,6 +56,16 @@ fn straight_line(rt: &(impl Print + Input)) -> io::Result<()> {
     made(rt, holder_from_key::straight(printing::first(&key, k), n))
 }
 
+// A walk's number, and what it answers; where it is refused, the holder as it was and no steps forward.
+fn walked(h: Holder, d: usize) -> (u32, Walked) {
+    let stayed = Walked {
+        holder: h,
+        steps: 0,
+        way: Way::Forward,
+    };
+    answered(holder_walk::walk(h, d), stayed)
+}
+
 fn walk_line(rt: &(impl Print + Input)) -> io::Result<()> {
     let key = [7u8; 32];
     printing::word(rt, b"walk")?;
@@ -55,29 +73,15 @@ fn walk_line(rt: &(impl Print + Input)) -> io::Result<()> {
     let s = printing::echo(rt)?;
     let d = printing::echo(rt)?;
     let from = holder_from_key::straight(printing::first(&key, k), s);
-    let start = from.holder;
-    let r = holder_walk::walk(start, d);
-    let o = r.outcome;
-    let h = r.holder;
-    let w = r.way;
-    outcome(rt, o)?;
-    printing::number(rt, r.steps as u64)?;
-    way(rt, w)?;
-    held(rt, h)
+    let (n, w) = walked(from.unwrap_or_default(), d);
+    number(rt, n)?;
+    printing::number(rt, w.steps as u64)?;
+    way(rt, w.way)?;
+    held(rt, w.holder)
 }
 
-fn same_bytes(a: &[u8; 24], b: &[u8; 24]) -> bool {
-    a == b
-}
-
-fn same(a: Holder, b: Holder) -> bool {
-    let p = a.bytes;
-    let q = b.bytes;
-    a.length == b.length && a.number == b.number && same_bytes(&p, &q)
-}
-
-fn kept(rt: &impl Print, o: Outcome, ok: bool) -> io::Result<()> {
-    outcome(rt, o)?;
+fn kept(rt: &impl Print, n: u32, ok: bool) -> io::Result<()> {
+    number(rt, n)?;
     if ok {
         printing::word(rt, b" kept")
     } else {
@@ -86,38 +90,29 @@ fn kept(rt: &impl Print, o: Outcome, ok: bool) -> io::Result<()> {
 }
 
 fn step_case(rt: &impl Print, h: Holder) -> io::Result<()> {
-    let f = holder_steps::forward(h);
-    let fo = f.outcome;
-    let fh = f.holder;
     printing::word(rt, b" forward")?;
-    kept(rt, fo, same(h, fh))?;
-    let b = holder_steps::back(h);
-    let bo = b.outcome;
-    let bh = b.holder;
+    let (n, forward) = answered(holder_steps::forward(h), h);
+    kept(rt, n, forward == h)?;
     printing::word(rt, b" back")?;
-    kept(rt, bo, same(h, bh))
+    let (n, back) = answered(holder_steps::back(h), h);
+    kept(rt, n, back == h)
 }
 
 fn walk_case(rt: &impl Print, h: Holder, d: usize) -> io::Result<()> {
-    let r = holder_walk::walk(h, d);
-    let o = r.outcome;
-    let w = r.way;
-    let left = r.holder;
+    let (n, w) = walked(h, d);
     printing::word(rt, b" walk")?;
     printing::number(rt, d as u64)?;
-    kept(rt, o, same(h, left))?;
-    printing::number(rt, r.steps as u64)?;
-    way(rt, w)
+    kept(rt, n, w.holder == h)?;
+    printing::number(rt, w.steps as u64)?;
+    way(rt, w.way)
 }
 
-// A refused request for the subkey answers twelve zeros.
+// A refused request for the subkey answers no subkey: zeros stand for it.
 fn subkey_case(rt: &impl Print, h: Holder) -> io::Result<()> {
-    let g = holder_steps::subkey(h);
-    let o = g.outcome;
-    let k = g.subkey;
+    let (n, k) = answered(holder_steps::subkey(h), [0u8; 12]);
     printing::word(rt, b" subkey")?;
-    outcome(rt, o)?;
-    if printing::all_marks(&k, 0, 0) {
+    number(rt, n)?;
+    if k == [0u8; 12] {
         printing::word(rt, b" zeros\n")
     } else {
         printing::word(rt, b" given\n")
@@ -144,14 +139,11 @@ fn handed_line(rt: &(impl Print + Input)) -> io::Result<()> {
 }
 
 fn line(rt: &(impl Print + Input), call: u64) -> io::Result<()> {
-    if call == 1 {
-        make_line(rt)
-    } else if call == 2 {
-        straight_line(rt)
-    } else if call == 3 {
-        walk_line(rt)
-    } else {
-        handed_line(rt)
+    match call {
+        1 => make_line(rt),
+        2 => straight_line(rt),
+        3 => walk_line(rt),
+        _ => handed_line(rt),
     }
 }
 

@@ -3,16 +3,17 @@
 #![tactic(auto)]
 
 ghost use Rattle.std.specs.Prelude.{◌≡◌, true, ◌<◌, length};
+ghost use Rattle.std.specs.Result.{result_unwrap_or};
 ghost use Rattle.refusal.specs.Reasons.{outcome_number};
 ghost use Rattle.refusal.specs.Tries.{first};
 ghost use Rattle.sizes.specs.Sizes.{key_length, t_of, turn};
 ghost use Rattle.stages.specs.Columns.{padded};
 ghost use Rattle.stages.specs.Stages.{stage};
-ghost use Rattle.holder.specs.Holder.{holder_at};
+ghost use Rattle.holder.specs.Holder.{holder_at, blank};
 ghost use Rattle.holder_from_key.specs.FromKey.{make_number, made_holder, straight_tries, straight_number, straight_holder};
 
-use holder::{Holder, HolderAnswer};
-use refusal::{Outcome, Reason, unless};
+use holder::Holder;
+use refusal::{Reason, require};
 
 // A key's stage n: 24 bytes, with zeros past the key's length.
 pub fn stage_bytes(key: &[u8], n: usize) -> [u8; 24]
@@ -21,10 +22,8 @@ pub fn stage_bytes(key: &[u8], n: usize) -> [u8; 24]
 {
     let t = key.len() / 6;
     let mut k = schedule::stage_of_key(key);
-    let mut s: usize = 0;
-    while s < n {
-        s += 1;
-        schedule::next_stage(t, s, &mut k);
+    for s in 0..n {
+        schedule::next_stage(t, s + 1, &mut k);
     }
     k
 }
@@ -42,48 +41,30 @@ fn stage_at(key: &[u8], n: usize) -> Holder
 }
 
 // A holder of a key at stage 0.
-pub fn make(key: &[u8]) -> HolderAnswer
-    ensures outcome_value { outcome_number result.outcome ≡ make_number key.now }
-    ensures holder_value { result.holder ≡ made_holder key.now }
+#[tactic(auto, unfolding(refusal::specs::Tries::first, refusal::specs::Tries::answered, crate::specs::FromKey::made_holder))]
+pub fn make(key: &[u8]) -> Result<Holder, Reason>
+    ensures outcome_value { outcome_number result ≡ make_number key.now }
+    ensures holder_value { result_unwrap_or result blank ≡ made_holder key.now }
 {
-    if !sizes::is_key_length(key.len()) {
-        return HolderAnswer {
-            outcome: Outcome::Refused(Reason::KeyLength),
-            holder: holder::blank_holder(),
-        };
-    }
-    HolderAnswer {
-        outcome: Outcome::Done,
-        holder: stage_at(key, 0),
-    }
+    require(sizes::is_key_length(key.len()), Reason::KeyLength)?;
+    Ok(stage_at(key, 0))
 }
 
 // A key of so many bytes, then the number of a stage.
-pub fn try_straight(length: usize, n: usize) -> Outcome
+#[tactic(auto, unfolding(refusal::specs::Tries::first))]
+pub fn try_straight(length: usize, n: usize) -> Result<(), Reason>
     ensures { outcome_number result ≡ first (straight_tries length n) }
 {
-    let known = unless(
-        Outcome::Done,
-        Reason::KeyLength,
-        sizes::is_key_length(length),
-    );
-    unless(known, Reason::StageOrList, n < sizes::turn_of_key(length))
+    require(sizes::is_key_length(length), Reason::KeyLength)?;
+    require(n < sizes::turn_of_key(length), Reason::StageOrList)
 }
 
 // A stage straight from the key and a number, as a holder.
-pub fn straight(key: &[u8], n: usize) -> HolderAnswer
-    ensures outcome_value { outcome_number result.outcome ≡ straight_number key.now n }
-    ensures holder_value { result.holder ≡ straight_holder key.now n }
+#[tactic(auto, unfolding(refusal::specs::Tries::first, refusal::specs::Tries::answered, crate::specs::FromKey::straight_holder))]
+pub fn straight(key: &[u8], n: usize) -> Result<Holder, Reason>
+    ensures outcome_value { outcome_number result ≡ straight_number key.now n }
+    ensures holder_value { result_unwrap_or result blank ≡ straight_holder key.now n }
 {
-    let outcome = try_straight(key.len(), n);
-    if refusal::is_refused(outcome) {
-        return HolderAnswer {
-            outcome,
-            holder: holder::blank_holder(),
-        };
-    }
-    HolderAnswer {
-        outcome,
-        holder: stage_at(key, n),
-    }
+    try_straight(key.len(), n)?;
+    Ok(stage_at(key, n))
 }

@@ -3,69 +3,49 @@
 #![tactic(auto)]
 
 ghost use Rattle.std.specs.Prelude.{◌≡◌};
+ghost use Rattle.std.specs.Result.{result_unwrap_or};
 ghost use Rattle.refusal.specs.Reasons.{outcome_number};
 ghost use Rattle.holder.specs.declared.Way.TheVariants.{Forward, Back};
-ghost use Rattle.holder_steps.specs.Steps.{holder_number, step_holder, subkey_held};
+ghost use Rattle.holder_steps.specs.Steps.{holder_number, step_holder, no_subkey, subkey_held};
 
-use holder::{Holder, HolderAnswer, Way, is_whole, step};
-use refusal::{Outcome, Reason};
-
-// What a request for the subkey answers.
-#[derive(Drop)]
-pub struct SubkeyAnswer {
-    pub outcome: Outcome,
-    pub subkey: [u8; 12],
-}
+use holder::{Holder, Way, is_whole, step};
+use refusal::{Reason, require};
 
 // One step, the way that is told.
-pub fn step_either(way: Way, h: Holder) -> HolderAnswer
-    ensures outcome_value { outcome_number result.outcome ≡ holder_number h }
-    ensures holder_value { result.holder ≡ step_holder way h }
+#[tactic(auto, unfolding(refusal::specs::Tries::first, refusal::specs::Tries::answered, crate::specs::Steps::step_holder))]
+pub fn step_either(way: Way, h: Holder) -> Result<Holder, Reason>
+    ensures outcome_value { outcome_number result ≡ holder_number h }
+    ensures holder_value { result_unwrap_or result h ≡ step_holder way h }
 {
-    if !is_whole(h) {
-        return HolderAnswer {
-            outcome: Outcome::Refused(Reason::BrokenHolder),
-            holder: h,
-        };
-    }
-    HolderAnswer {
-        outcome: Outcome::Done,
-        holder: step(way, h),
-    }
+    require(is_whole(h), Reason::BrokenHolder)?;
+    Ok(step(way, h))
 }
 
 // A step forward.
-pub fn forward(h: Holder) -> HolderAnswer
-    ensures outcome_value { outcome_number result.outcome ≡ holder_number h }
-    ensures holder_value { result.holder ≡ step_holder Forward h }
+// Kept: the claims name this and `back`, and the edit `forward_steps_back` is of this call.
+pub fn forward(h: Holder) -> Result<Holder, Reason>
+    ensures outcome_value { outcome_number result ≡ holder_number h }
+    ensures holder_value { result_unwrap_or result h ≡ step_holder Forward h }
 {
     step_either(Way::Forward, h)
 }
 
 // A step back.
-pub fn back(h: Holder) -> HolderAnswer
-    ensures outcome_value { outcome_number result.outcome ≡ holder_number h }
-    ensures holder_value { result.holder ≡ step_holder Back h }
+pub fn back(h: Holder) -> Result<Holder, Reason>
+    ensures outcome_value { outcome_number result ≡ holder_number h }
+    ensures holder_value { result_unwrap_or result h ≡ step_holder Back h }
 {
     step_either(Way::Back, h)
 }
 
 // The subkey of the stage that is held.
-pub fn subkey(h: Holder) -> SubkeyAnswer
-    ensures outcome_value { outcome_number result.outcome ≡ holder_number h }
-    ensures subkey_value { result.subkey ≡ subkey_held h }
+#[tactic(auto, unfolding(refusal::specs::Tries::first, refusal::specs::Tries::answered, crate::specs::Steps::subkey_held))]
+pub fn subkey(h: Holder) -> Result<[u8; 12], Reason>
+    ensures outcome_value { outcome_number result ≡ holder_number h }
+    ensures subkey_value { result_unwrap_or result no_subkey ≡ subkey_held h }
 {
     let mut out = [0u8; 12];
-    if !is_whole(h) {
-        return SubkeyAnswer {
-            outcome: Outcome::Refused(Reason::BrokenHolder),
-            subkey: out,
-        };
-    }
-    let bytes = h.bytes;
-    blocks::write_state(&mut out, subkeys::subkey(&bytes));
-    SubkeyAnswer {
-        outcome: Outcome::Done,
-        subkey: out,
-    }
+    require(is_whole(h), Reason::BrokenHolder)?;
+    blocks::write_state(&mut out, subkeys::subkey(&h.bytes));
+    Ok(out)
 }

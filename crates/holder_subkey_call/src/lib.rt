@@ -3,23 +3,20 @@
 #![tactic(auto)]
 
 ghost use Rattle.std.specs.Prelude.{◌≡◌};
+ghost use Rattle.refusal.specs.Reasons.{outcome_number};
 ghost use Rattle.holder_subkey_call.specs.SubkeyCall.{held_subkey_number, held_subkey_output};
 
 use holder_bytes::read;
-use refusal::{Reason, unless};
+use refusal::{Reason, require};
 
 // The subkey of the stage that is held: 12 bytes.
-pub fn subkey(lent: &[u8], out: &mut [u8]) -> u32
-    ensures value { result ≡ held_subkey_number lent.now out.old }
+#[tactic(auto, unfolding(refusal::specs::Tries::first, refusal::specs::Tries::written, crate::specs::SubkeyCall::held_subkey_output))]
+pub fn subkey(lent: &[u8], out: &mut [u8]) -> Result<(), Reason>
+    ensures value { outcome_number result ≡ held_subkey_number lent.now out.old }
     ensures out_after { out.new ≡ held_subkey_output lent.now out.old }
 {
-    let given = holder_steps::subkey(read(lent));
-    let known = given.outcome;
-    let tried = unless(known, Reason::OutputTooShort, 12 <= out.len());
-    if refusal::is_refused(tried) {
-        return refusal::outcome_number(tried);
-    }
-    let bytes = given.subkey;
+    let bytes = holder_steps::subkey(read(lent))?;
+    require(12 <= out.len(), Reason::OutputTooShort)?;
     blocks::put_bytes(out, 0, &bytes);
-    0
+    Ok(())
 }

@@ -7,6 +7,7 @@ use Rattle.holder.specs.declared.Holder.{Holder}
 use Rattle.holder.specs.declared.Way.{Way}
 use Rattle.holder.specs.declared.Way.TheVariants.{Forward, Back}
 use Rattle.holder.specs.Holder.{t_held, whole, stepped}
+use Rattle.holder_walk.specs.declared.Walked.{Walked}
 
 -- f = (d - s) modulo 6t: the steps forward from stage s to stage d
 abbrev pub steps_forward : ℕ → ℕ → ℕ → ℕ
@@ -40,3 +41,7 @@ walk_steps h d = answered (walk_number h d) (ring_distance (t_held h) h.number d
 
 unfoldable pub walk_way : Holder → ℕ → Way
 walk_way h d = answered (walk_number h d) (way_to (t_held h) h.number d) Forward
+
+-- what stands in a walk's place where it is refused: the holder as it was
+abbrev pub stayed : Holder → Walked
+stayed h = record { holder = h; steps = 0; way = Forward }

@@ -8,14 +8,20 @@ use native.Mathlib.Omega.{arith}
 use lib.Dec.{ltb}
 use lib.ListN.{length, get_or, drop}
 use borrow.Author.Tests.{ltb-true, ltb-false}
-use Rattle.field.specs.Field.{◌⊕◌, cube_root}
+use Rattle.field.specs.Field.{◌⊕◌, times, cube_root}
+use Rattle.field.proofs.Addition.{byte}
 use Rattle.layers.specs.State.{column}
 use Rattle.stages.specs.Columns.{cell, columns, fill, column_rule}
 use Rattle.stages.specs.Stages.{next, previous, by_row, inverse_step}
+use Rattle.stages.proofs.ColumnRule.{times-inverse}
 use Rattle.stages.proofs.Columns.{length-columns}
 use Rattle.stages.proofs.Places.{next_on, next_around}
 use Rattle.stages.proofs.Steps.{unrotated-fill}
 use Rattle.stages.proofs.Written.{put_column, ruled, upto, unwritten, column_put}
+
+-- c + 1 times the sum of a column
+pub sum_back : (x y z : ℕ) → x < 256 → y < 256 → z < 256 → times cube_root (x ⊕ (y ⊕ z)) ⊕ (x ⊕ (y ⊕ z)) ≡ times (cube_root ⊕ 1) (x ⊕ (y ⊕ z))
+sum_back x y z hx hy hz = times-inverse (x ⊕ (y ⊕ z)) (byte x (y ⊕ z) hx (byte y z hy hz))
 
 -- column j after the column rule with c + 1
 abbrev pub ruled_back : List ℕ → ℕ → List ℕ

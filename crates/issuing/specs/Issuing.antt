@@ -1,7 +1,7 @@
 -- What issuing a grant answers: document 01, "Roll and grant" and the order line "issue 1, 2, 4, 6, 7, 20", with 25 last, as request 6 has it, and 14
 -- directly after 7, as request 7 has it. The contractor's count now is written in the grant. The order line is made of parts, which the call on a roll's
 -- bytes shares.
-use Rattle.std.specs.Prelude.{List, [], ◌∷◌, ◌++◌, ℕ, leb, length}
+use Rattle.std.specs.Prelude.{Bool, List, [], ◌∷◌, ◌++◌, ℕ, leb, length}
 use Rattle.refusal.specs.Tries.{Try, ◌unless◌, first, written}
 use Rattle.settings.specs.Settings.{settings_tries}
 use Rattle.size_blocks.specs.SizeBlocks.{is_size_block}
@@ -28,6 +28,11 @@ wanted_tries room contractor size_block right entry =
 abbrev pub issue_tries : List ℕ → ℕ → Roll → ℕ → ℕ → ℕ → List ℕ → List Try
 issue_tries key rounds roll contractor size_block right out =
     settings_tries (length key) rounds ++ wanted_tries (length out) contractor size_block right (entry_of roll contractor)
+
+-- and where what holds the roll may not be a whole one, 3 between them
+abbrev pub issue_tries_on : Bool → List ℕ → ℕ → Roll → ℕ → ℕ → ℕ → List ℕ → List Try
+issue_tries_on whole key rounds roll contractor size_block right out =
+    (settings_tries (length key) rounds ++ ((3 unless whole) ∷ [])) ++ wanted_tries (length out) contractor size_block right (entry_of roll contractor)
 
 abbrev pub issue_number : List ℕ → ℕ → Roll → ℕ → ℕ → ℕ → List ℕ → ℕ
 issue_number key rounds roll contractor size_block right out = first (issue_tries key rounds roll contractor size_block right out)

@@ -3,7 +3,7 @@ use mathlib.Core.Path.{◌≡◌, sym, ap, ◌∙◌}
 use mathlib.Core.List.{List}
 use Prim.Native.Nat.{ℕ, ◌<◌}
 use Rattle.refusal.specs.Tries.{Try, first, answered}
-use Rattle.refusal.proofs.Answers.{answer-refused, answer-done}
+use Rattle.refusal.proofs.Answers.{answer-refused}
 
 module _ (ts : List Try) (contractor right : ℕ) where
   -- number, contractor and right of an answer
@@ -12,9 +12,6 @@ module _ (ts : List Try) (contractor right : ℕ) where
 
   pub verdict_refused : (n : ℕ) → 0 < n → first ts ≡ n → Tells n 0 0
   verdict_refused n h e = (sym e, (answer-refused ts n contractor 0 h e, answer-refused ts n right 0 h e))
-
-  pub verdict_opens : (c r : ℕ) → c ≡ contractor → r ≡ right → first ts ≡ 0 → Tells 0 c r
-  verdict_opens c r ec er e = (sym e, (ec ∙ answer-done ts contractor 0 e, er ∙ answer-done ts right 0 e))
 
   -- where all that is tried first passes, the answer is that of the rest
   pub verdict_passed : (rest : List Try) (n c r : ℕ) → first ts ≡ first rest

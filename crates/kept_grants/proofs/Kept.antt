@@ -1,18 +1,14 @@
 -- A list of calls on the roll, one call more at a time, and the answer to a grant that was kept meanwhile.
-use mathlib.Core.Path.{◌≡◌, refl, sym, ap, ap₂, ◌∙◌, subst⁻¹}
-use mathlib.Core.Bool.{Bool, cond}
+use mathlib.Core.Path.{◌≡◌, refl, sym, ap, ◌∙◌, subst⁻¹}
 use mathlib.Core.List.{List, [], ◌∷◌, ◌++◌}
-use Prim.Native.Nat.{ℕ, ◌+◌, ◌%◌, ◌/◌, ◌≤◌, ◌<◌}
+use Prim.Native.Nat.{ℕ, ◌+◌, ◌≤◌, ◌<◌}
 use native.Mathlib.Omega.{arith}
 use native.Mathlib.Numerals.{add-one}
-use lib.Dec.{eqb}
 use lib.ListN.{length, get_or, take}
 use lib.Seq.{take-suc, take_all}
-use borrow.Author.Tests.{eq-eqb, ne_eqb}
 use Rattle.refusal.specs.Tries.{Try}
 use Rattle.refusal.proofs.Answers.{answer-refused, answer-done}
 use Rattle.basics.specs.Bytes.{AreBytes}
-use Rattle.histories.specs.Histories.{Change, enter, change, withdraw}
 use Rattle.check_call.specs.CheckCall.{call_code}
 use Rattle.issue_call.specs.IssueCall.{issue_call_tries, issue_call_number, issue_call_output}
 use Rattle.call_claims.specs.CallHistories.{called, bytes_after, CallIssued, grant_given}
@@ -21,22 +17,6 @@ use Rattle.call_claims.proofs.Claims.{calls_revoke}
 use Rattle.kept_grants.specs.Kept.{change_from, changes_from, Revoked, kept_code, kept_roll}
 
 -- ---- the calls, one after the other
--- the call that a number stands for, by the tests of it
-call_by : ℕ → Bool → Bool → Change
-call_by n a b = cond a (enter (n / 12) (n / 3 % 4)) (cond b (change (n / 12) (n / 3 % 4)) (withdraw (n / 12)))
-
-pub enters : (n : ℕ) → n % 3 ≡ 0 → change_from n ≡ enter (n / 12) (n / 3 % 4)
-unfolding change_from call_by
-enters n e = ap (λ (a : Bool). call_by n a (eqb (n % 3) 1)) (eq-eqb (n % 3) 0 e)
-
-pub changes : (n : ℕ) → (n % 3 ≡ 0 → ⊥) → n % 3 ≡ 1 → change_from n ≡ change (n / 12) (n / 3 % 4)
-unfolding change_from call_by
-changes n d e = ap₂ (call_by n) (ne_eqb (n % 3) 0 d) (eq-eqb (n % 3) 1 e)
-
-pub withdraws : (n : ℕ) → (n % 3 ≡ 0 → ⊥) → (n % 3 ≡ 1 → ⊥) → change_from n ≡ withdraw (n / 12)
-unfolding change_from call_by
-withdraws n d e = ap₂ (call_by n) (ne_eqb (n % 3) 0 d) (ne_eqb (n % 3) 1 e)
-
 after_more : (ns : List ℕ) (n : ℕ) (roll : List ℕ)
     → bytes_after (changes_from (ns ++ (n ∷ []))) roll ≡ called (change_from n) (bytes_after (changes_from ns) roll)
 unfolding bytes_after changes_from

@@ -8,30 +8,26 @@ ghost use Rattle.call_claims.specs.CallHistories.{called, bytes_after};
 ghost use Rattle.kept_grants.specs.Kept.{change_from, changes_from, Revoked, kept_code, kept_roll};
 
 // One call of the list.
+// Kept: a call is a number, and no enum, since `Revoked` says it of every list of numbers, which `change_from` reads as this function does.
+#[tactic(auto, unfolding(call_claims::specs::CallHistories::called, crate::specs::Kept::change_from))]
 fn call_change(roll: &mut [u8], call: u32)
     ensures { roll.new ≡ called (change_from call) roll.old }
 {
     let contractor = call / 12;
     let right = call / 3 % 4;
-    if call % 3 == 0 {
-        capi::gordzila_enter(roll, contractor, right);
-        return;
-    }
-    if call % 3 == 1 {
-        capi::gordzila_change_right(roll, contractor, right);
-        return;
-    }
-    capi::gordzila_withdraw(roll, contractor);
+    match call % 3 {
+        0 => capi::gordzila_enter(roll, contractor, right),
+        1 => capi::gordzila_change_right(roll, contractor, right),
+        _ => capi::gordzila_withdraw(roll, contractor),
+    };
 }
 
 // The calls of the list, in its order, whatever each answers.
 pub fn call_changes(roll: &mut [u8], calls: &[u32])
     ensures { roll.new ≡ bytes_after (changes_from calls.now) roll.old }
 {
-    let mut i: usize = 0;
-    while i < calls.len() {
-        call_change(roll, calls[i]);
-        i += 1;
+    for call in calls {
+        call_change(roll, *call);
     }
 }
 
@@ -57,6 +53,7 @@ pub fn call_issue_change_check(
         out.old }
 {
     let number = capi::gordzila_issue(key, rounds, roll, contractor, size_block, right, out);
+    // Kept: the C interface: gordzila_issue answers with a number, and `kept_code` is that number where it is no 0.
     if number != 0 {
         return number;
     }

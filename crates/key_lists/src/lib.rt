@@ -3,7 +3,7 @@
 #![tactic(auto)]
 
 // Which way a subkey list is to be used.
-#[derive(Drop)]
+#[derive(Clone, Copy, Debug, PartialEq, Eq)]
 pub enum Direction {
     Enciphering,
     Deciphering,

@@ -2,7 +2,7 @@
 
 #![tactic(auto)]
 
-ghost use Rattle.std.specs.Prelude.{◌≡◌, cond, ◌++◌, ◌+◌, ◌*◌, ◌≤◌, ◌<◌, ltb, length, drop};
+ghost use Rattle.std.specs.Prelude.{◌≡◌, cond, ◌++◌, ◌+◌, ◌*◌, ◌≤◌, ◌<◌, ltb, drop};
 ghost use Rattle.field.specs.Field.{◌⊕◌, times, cube_root};
 ghost use Rattle.sizes.specs.Sizes.{Sized};
 ghost use Rattle.stages.specs.Columns.{cell};
@@ -20,22 +20,18 @@ fn row_one_after(n: usize, j: usize, k: &[u8; 24], first: u8) -> u8
     requires { (j < n) × (n ≤ 8) }
     ensures { result ≡ cond (ltb (j + 1) n) (cell k.now 1 (j + 1)) first }
 {
-    if j + 1 < n {
-        return k[3 * j + 4];
-    }
-    first
+    if j + 1 < n { k[3 * j + 4] } else { first }
 }
 
 // The linear step of a stage of 2t columns, in place: what is read after it was written is kept aside.
 pub fn linear_step(t: usize, k: &mut [u8; 24])
-    requires { Sized t × (length k.old ≡ 24) }
+    requires { Sized t }
     ensures { k.new ≡ linear_step (2 * t) k.old ++ drop (6 * t) k.old }
 {
     let n = 2 * t;
     let first = k[1];
     let mut before = k[6 * t - 1];
-    let mut j: usize = 0;
-    while j < n {
+    for j in 0..n {
         let x = k[3 * j];
         let y = row_one_after(n, j, k, first);
         let z = before;
@@ -44,6 +40,5 @@ pub fn linear_step(t: usize, k: &mut [u8; 24])
         k[3 * j] = x ^ m;
         k[3 * j + 1] = y ^ m;
         k[3 * j + 2] = z ^ m;
-        j += 1;
     }
 }

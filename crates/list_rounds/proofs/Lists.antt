@@ -5,7 +5,7 @@ use mathlib.Core.List.{List, [], ◌∷◌}
 use Prim.Native.Nat.{ℕ, suc, ◌+◌, ◌*◌, ◌%◌, ◌≤◌, ◌<◌}
 use native.Mathlib.Omega.{arith}
 use lib.Dec.{leb, eqb}
-use lib.ListN.{length, get_or, drop}
+use lib.ListN.{length, get_or, drop, drop_of_length-le}
 use lib.Seq.{drop-cons, drop-length}
 use borrow.Author.Tests.{leb-true, le-leb, eqb-true, eq-eqb}
 use Rattle.basics.proofs.Tests.{and_first, and_second}
@@ -38,6 +38,10 @@ accepted rounds l h =
     ∙ eq-eqb (12 * (rounds + 1) % 12) 0 (omega arith)
 
 -- ---- the rounds from subkey r on
+pub rounds_done : (ks : List State) (r : ℕ) (a : State) → length ks ≤ r → rounds (drop r ks) a ≡ a
+unfolding rounds
+rounds_done ks r a h = ap (λ (l : List State). rounds l a) (drop_of_length-le ks {i = r} h)
+
 module _ (ks : List State) (r : ℕ) (a : State) where
   pub round_on : suc r < length ks → rounds (drop r ks) a ≡ rounds (drop (suc r) ks) (round (get_or ks r []) a)
   unfolding rounds
@@ -45,11 +49,12 @@ module _ (ks : List State) (r : ℕ) (a : State) where
       ap (λ (l : List State). rounds l a) (drop-cons ks r [] (omega arith) ∙ ap {B = List State} (λ l. get_or ks r [] ∷ l) (drop-cons ks (suc r) [] h))
       ∙ sym (ap (λ (l : List State). rounds l (round (get_or ks r []) a)) (drop-cons ks (suc r) [] h))
 
-  pub round_last : suc r ≡ length ks → rounds (drop r ks) a ≡ last_round (get_or ks r []) a
+  pub round_last : suc r ≡ length ks → rounds (drop r ks) a ≡ rounds (drop (suc r) ks) (last_round (get_or ks r []) a)
   unfolding rounds
   round_last e =
       ap (λ (l : List State). rounds l a)
       (drop-cons ks r [] (omega arith) ∙ ap {B = List State} (λ l. get_or ks r [] ∷ l) (ap (λ (m : ℕ). drop m ks) e ∙ drop-length ks))
+      ∙ sym (rounds_done ks (suc r) (last_round (get_or ks r []) a) (omega arith))
 
 pub whitened : (ks : List State) (a : State) → 0 < length ks → enciphered ks a ≡ rounds (drop 1 ks) (added (get_or ks 0 []) a)
 unfolding enciphered

@@ -7,14 +7,13 @@ ghost use Rattle.rounds.specs.Rounds.{enciphered};
 ghost use Rattle.block_bytes.specs.Blocks.{list_states};
 ghost use Rattle.list_rounds.specs.ListRounds.{list_length};
 
-use basics::both;
 use blocks::state_of;
 use key_addition::add_key;
 
 pub fn is_list_length(n: usize) -> bool
     ensures { result ≡ list_length n }
 {
-    both(132 <= n, both(n <= 288, n % 12 == 0))
+    132 <= n && n <= 288 && n % 12 == 0
 }
 
 // The rounds under all subkeys of a list: subkey 0 is added first. Every round substitutes and permutes, and all but the last diffuse. One loop has them
@@ -25,18 +24,19 @@ pub fn encipher_state(list: &[u8], a: [[u8; 3]; 4]) -> [[u8; 3]; 4]
 {
     let n = list.len() / 12;
     let mut state = add_key(state_of(&list[..12]), a);
-    let mut r: usize = 1;
-    loop {
+    for r in 1..n {
         let substituted = substitution::substitute(state);
         let permuted = permutation::permute(substituted);
         let at = 12 * r;
         let k = state_of(&list[at..at + 12]);
-        r += 1;
-        if r == n {
-            return add_key(k, permuted);
-        }
-        let diffused = diffusion::diffuse(permuted);
-        let next = add_key(k, diffused);
+        let mixed = if r + 1 == n {
+            permuted
+        } else {
+            diffusion::diffuse(permuted)
+        };
+        // Kept in two lines: of an array that a call lays straight in `state`, nothing can be proved yet.
+        let next = add_key(k, mixed);
         state = next;
     }
+    state
 }

@@ -1,36 +1,17 @@
 -- Numbers read from the bytes that they were written as, and bytes from the numbers that they are.
-use mathlib.Core.Path.{◌≡◌, ap₂, ◌∙◌}
+use mathlib.Core.Path.{◌≡◌}
 use mathlib.Core.List.{[], ◌∷◌}
-use Prim.Native.Nat.{ℕ, ◌+◌, ◌*◌, ◌/◌, ◌%◌, ◌<◌}
+use Prim.Native.Nat.{ℕ, ◌/◌, ◌%◌, ◌<◌}
 use native.Mathlib.Omega.{arith}
+use Rattle.std.proofs.lemmas.Nat.{from_be_bytes-to_be_bytes_4}
 use Rattle.numbers.specs.Numbers.{two_from, four_from, four_bytes}
 
 -- ---- a number from its bytes
 pub two_again : (n : ℕ) → n < 65536 → two_from (n / 256 % 256) (n % 256) ≡ n
 two_again n h = omega arith
 
-sum : (b x y z r₀ r₁ r₂ r₃ : ℕ) → 256 * x + r₀ ≡ b → 256 * y + r₁ ≡ x → 256 * z + r₂ ≡ y → r₃ ≡ z
-    → four_from r₃ r₂ r₁ r₀ ≡ b
-sum b x y z r₀ r₁ r₂ r₃ e₀ e₁ e₂ e₃ = omega arith
-
-split : (n : ℕ) → 256 * (n / 256) + n % 256 ≡ n
-split n = omega arith
-
--- the parts of a number, as quotients of quotients
-half : (b : ℕ) → b / 65536 ≡ b / 256 / 256
-half b = omega arith
-
-quarter : (b : ℕ) → b / 16777216 ≡ b / 256 / 256 / 256
-quarter b = omega arith
-
-top : (b : ℕ) → b < 4294967296 → b / 256 / 256 / 256 % 256 ≡ b / 256 / 256 / 256
-top b h = omega arith
-
 pub four_again : (b : ℕ) → b < 4294967296 → four_from (b / 16777216 % 256) (b / 65536 % 256) (b / 256 % 256) (b % 256) ≡ b
-four_again b h =
-    ap₂ (λ (x y : ℕ). four_from (x % 256) (y % 256) (b / 256 % 256) (b % 256)) (quarter b) (half b)
-    ∙ sum b (b / 256) (b / 256 / 256) (b / 256 / 256 / 256) (b % 256) (b / 256 % 256) (b / 256 / 256 % 256) _ (split b) (split (b / 256))
-    (split (b / 256 / 256)) (top b h)
+four_again b h = omega (arith, from_be_bytes-to_be_bytes_4 b h)
 
 -- ---- the bytes of a number made of bytes
 pub high : (a b : ℕ) → a < 256 → b < 256 → two_from a b / 256 % 256 ≡ a

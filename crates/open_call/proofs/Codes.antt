@@ -5,12 +5,13 @@ use mathlib.Core.List.{List}
 use Prim.Native.Nat.{ℕ, ◌≤◌}
 use native.Mathlib.Omega.{arith}
 use lib.Dec.{eqb}
-use Rattle.refusal.specs.Tries.{answered}
 use Rattle.refusal.proofs.Answers.{answer_either}
 use Rattle.refusal.proofs.Ladder.{all_pass}
+use Rattle.refusal.proofs.Tries.{none-given}
 use Rattle.pages.specs.Pages.{used_in}
-use Rattle.opening.specs.Opening.{open_tries, open_number, opened_used}
-use Rattle.opening.proofs.Tried.{Passed, passed}
+use Rattle.opening.specs.Opening.{open_input_tries, open_tries, open_number, opened_used}
+use Rattle.refusal.specs.Tries.{first, answered}
+use Rattle.opening.proofs.Tried.{openable}
 use Rattle.open_call.specs.OpenCall.{header_code, open_code}
 
 -- what is not answered does not count
@@ -23,13 +24,13 @@ code_of n block number used = by (eqb n 0)
     by false = refl
 
 module _ (key₁ key₂ : List ℕ) (rounds : ℕ) (page scratch out : List ℕ) where
-  -- where nothing is refused, nothing that is tried before any work holds
-  pub nothing_early : open_number key₁ key₂ rounds page scratch out ≡ 0 → Passed key₁ key₂ rounds page scratch out
-  nothing_early e =
+  -- where nothing is refused, nothing is that is tried before any work
+  early : open_number key₁ key₂ rounds page scratch out ≡ 0 → first (open_input_tries key₁ key₂ rounds page scratch out) ≡ 0
+  early e =
       let p = all_pass (open_tries key₁ key₂ rounds page scratch out) refl e in
-      passed key₁ key₂ rounds page scratch out (p.0, (p.1.0, (p.1.1.0, (p.1.1.1.0, tt))))
+      none-given (open_input_tries key₁ key₂ rounds page scratch out) (p.0, (p.1.0, (p.1.1.0, (p.1.1.1.0, tt))))
 
-  pub used-fits : opened_used key₁ key₂ rounds page scratch out ≤ 492
+  pub used_fits : opened_used key₁ key₂ rounds page scratch out ≤ 492
   unfolding opened_used
-  used-fits =
-      answer_either (λ (u : ℕ). u ≤ 492) (open_number key₁ key₂ rounds page scratch out) (used_in page) 0 (λ e. (nothing_early e).used) (omega arith)
+  used_fits =
+      answer_either (λ (u : ℕ). u ≤ 492) (open_number key₁ key₂ rounds page scratch out) (used_in page) 0 (λ e. (openable key₁ key₂ rounds page scratch out (early e)).openable.used) (omega arith)

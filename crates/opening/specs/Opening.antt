@@ -5,6 +5,7 @@ use Rattle.refusal.specs.Tries.{Try, ◌unless◌, first, written, answered}
 use Rattle.layers.specs.State.{State}
 use Rattle.key_pairs.specs.KeyPairs.{pair_tries}
 use Rattle.pages.specs.Pages.{block_in, page_number_in, used_in, page_form, payload_in, check_agrees, unused_zero, cleared}
+use Rattle.pages.specs.declared.Header.{Header}
 use Rattle.pages.specs.Keyed.{enciphering, deciphering}
 
 -- what is tried before any work. 4: scratch under 576 or output under 492; 11: page not 512 bytes, count over 492 or bytes 8 to 11 not zero
@@ -37,6 +38,10 @@ open_output key₁ key₂ rounds page scratch out = written (open_number key₁ 
 -- and the scratch: cleared after success, after 13 and after the 11 tried after 13; kept after every other refusal
 unfoldable pub open_scratch : List ℕ → List ℕ → ℕ → List ℕ → List ℕ → List ℕ → List ℕ
 open_scratch key₁ key₂ rounds page scratch out = written (first (open_input_tries key₁ key₂ rounds page scratch out)) cleared scratch
+
+-- the header that stands for a refusal: zeros
+abbrev pub no_header : Header
+no_header = record { size_block = 0; page_number = 0; used = 0 }
 
 -- what is answered: the header's numbers; zeros where the call refuses
 unfoldable pub opened_block : List ℕ → List ℕ → ℕ → List ℕ → List ℕ → List ℕ → ℕ

@@ -11,7 +11,7 @@ use Rattle.refusal.proofs.Given.{not_given}
 use Rattle.refusal.proofs.Ladder.{ordered, all_pass, first_small}
 use Rattle.refusal.proofs.Answers.{kept, put, not_answered, is-answered}
 use Rattle.pages.specs.Pages.{block_in, page_number_in, used_in, cleared}
-use Rattle.pages.proofs.Lengths.{length-cleared}
+use Rattle.pages.proofs.Lengths.{length_cleared}
 use Rattle.sealing.specs.Sealing.{seal_tries, seal_number, seal_output, seal_scratch}
 use Rattle.opening.specs.Opening.{open_input_tries, content_tries, open_tries, open_number, open_output, open_scratch}
 use Rattle.open_call.specs.OpenCall.{header_code, open_code, open_call_code}
@@ -34,7 +34,7 @@ refused_page_keeps key₁ key₂ rounds block number payload page scratch out = 
 -- ---- the scratch
 -- cleared, where a number is 0
 clears : (n : ℕ) (scratch : List ℕ) → n ≡ 0 → written n cleared scratch ≡ cleared ++ drop 576 scratch
-clears n scratch e = sym (put n cleared scratch e) ∙ ap (λ (m : ℕ). cleared ++ drop m scratch) length-cleared
+clears n scratch e = sym (put n cleared scratch e) ∙ ap (λ (m : ℕ). cleared ++ drop m scratch) length_cleared
 
 module _ (key₁ key₂ : List ℕ) (rounds : ℕ) (page scratch out : List ℕ) where
   abbrev input : List Try

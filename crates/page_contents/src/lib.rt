@@ -15,6 +15,7 @@ ghost use Rattle.page_contents.specs.ForProver.{Readable};
 use key_lists::Direction;
 
 // Whether the last 8 bytes of a page are its check.
+#[tactic(auto, unfolding(pages::specs::Pages::check_agrees))]
 pub fn check_agrees(key: &[u8], rounds: u32, page: &[u8], room: &mut [u8]) -> bool
     requires { Readable (length key.now) rounds page.now (length room.old) }
     ensures value { result ≡ check_agrees (enciphering key.now rounds) page.now }
@@ -32,14 +33,15 @@ fn undo_if_zero(list: &[u8], start: [[u8; 3]; 4], bytes: &[u8], n: usize, out: &
         ≡ cond result (unchained_bytes (enciphered (list_states list.now)) start bytes.now
         ++ drop (length bytes.now) out.old) out.old }
 {
-    if unchain::is_zero_from(list, start, bytes, n) {
+    let zero = unchain::is_zero_from(list, start, bytes, n);
+    if zero {
         unchain::unchain(list, start, bytes, out);
-        return true;
     }
-    false
+    zero
 }
 
 // The payload to the output, where its unused bytes are zero; where they are not, nothing is written.
+#[tactic(auto, using(key_lists::proofs::Lists::read_list), unfolding(pages::specs::Pages::payload_in, pages::specs::Pages::unused_zero))]
 pub fn open_payload(key: &[u8], rounds: u32, page: &[u8], room: &mut [u8], out: &mut [u8]) -> bool
     requires { Readable (length key.now) rounds page.now (length room.old) × (492 ≤ length out.old) }
     ensures value { result ≡ unused_zero (enciphering key.now rounds) (deciphering key.now rounds) page.now }

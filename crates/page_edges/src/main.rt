@@ -5,6 +5,7 @@
 #![tactic(auto)]
 
 use byte_slices::zeros_from;
+use pages::Header;
 use printing::{all_marks, first, first_mut};
 use std::io;
 
@@ -16,26 +17,20 @@ fn second_bytes(same: usize) -> [u8; 32] {
 
 // The steps in which a page is made, for page 7 of a size block. None of them refuses size block 0.
 fn laid_out(block: u32, payload: &[u8], page: &mut [u8]) {
-    if payload.len() == 492 {
-        if page.len() == 512 {
-            page_steps::lay_out(block, 7, payload, page);
-        }
+    if payload.len() == 492 && page.len() == 512 {
+        page_steps::lay_out(block, 7, payload, page);
     }
 }
 
 fn chained(room: &mut [u8], page: &mut [u8]) {
-    if room.len() == 576 {
-        if page.len() == 512 {
-            page_steps::chain_payload(&[7u8; 12], 10, room, page);
-        }
+    if room.len() == 576 && page.len() == 512 {
+        page_steps::chain_payload(&[7u8; 12], 10, room, page);
     }
 }
 
 fn checked(room: &mut [u8], page: &mut [u8]) {
-    if room.len() == 576 {
-        if page.len() == 512 {
-            page_steps::put_check(&[9u8; 12], 10, room, page);
-        }
+    if room.len() == 576 && page.len() == 512 {
+        page_steps::put_check(&[9u8; 12], 10, room, page);
     }
 }
 
@@ -65,20 +60,14 @@ fn page(block: u32, payload: &[u8; 492], count: usize) -> [u8; 520] {
 
 // A payload of threes at the start of the output, zeros up to its 492 bytes, and nothing written after them.
 fn is_payload(out: &[u8], used: usize) -> bool {
-    if byte_slices::same(first(out, used), first(&[3u8; 520], used)) {
-        if zeros_from(first(out, 492), used) {
-            return all_marks(out, 492, MARK);
-        }
-    }
-    false
+    byte_slices::same(first(out, used), first(&[3u8; 520], used))
+        && zeros_from(first(out, 492), used)
+        && all_marks(out, 492, MARK)
 }
 
 // The 492 bytes of a payload at the start of the output, and nothing written after them.
 fn is_written(out: &[u8], payload: &[u8; 492]) -> bool {
-    if byte_slices::same(first(out, 492), payload) {
-        return all_marks(out, 492, MARK);
-    }
-    false
+    byte_slices::same(first(out, 492), payload) && all_marks(out, 492, MARK)
 }
 
 // What the output holds: what was to be written, or what stood there.
@@ -94,10 +83,7 @@ fn tell_output(rt: &impl Print, written: bool, kept: bool) -> io::Result<()> {
 }
 
 fn is_cleared(scratch: &[u8]) -> bool {
-    if zeros_from(first(scratch, 576), 0) {
-        return all_marks(scratch, 576, MARK);
-    }
-    false
+    zeros_from(first(scratch, 576), 0) && all_marks(scratch, 576, MARK)
 }
 
 fn tell_scratch(rt: &impl Print, scratch: &[u8]) -> io::Result<()> {
@@ -122,26 +108,15 @@ fn opens_again(k: usize, rounds: u32, size_block: u32, page: &[u8], used: usize)
         &mut scratch,
         &mut out,
     );
-    let outcome = opened.outcome;
-    let block = opened.size_block;
-    let number = opened.page_number;
-    let answered = opened.used;
-    if refusal::is_refused(outcome) {
-        return false;
+    let sealed = Header {
+        size_block,
+        page_number: 7,
+        used: (used % 65536) as u16,
+    };
+    match opened {
+        Ok(header) => header == sealed && is_payload(&out, used) && all_marks(page, 512, MARK),
+        Err(_) => false,
     }
-    if block != size_block {
-        return false;
-    }
-    if number != 7 {
-        return false;
-    }
-    if answered as usize != used {
-        return false;
-    }
-    if is_payload(&out, used) {
-        return all_marks(page, 512, MARK);
-    }
-    false
 }
 
 fn seal_line(rt: &(impl Print + Input)) -> io::Result<()> {
@@ -202,14 +177,15 @@ fn open_line(rt: &(impl Print + Input)) -> io::Result<()> {
         first_mut(&mut scratch, s),
         first_mut(&mut out, o),
     );
-    let outcome = opened.outcome;
-    let block = opened.size_block;
-    let number = opened.page_number;
-    let used = opened.used;
-    printing::number(rt, refusal::outcome_number(outcome) as u64)?;
-    printing::number(rt, block as u64)?;
-    printing::number(rt, number as u64)?;
-    printing::number(rt, used as u64)?;
+    let header = opened.unwrap_or(Header {
+        size_block: 0,
+        page_number: 0,
+        used: 0,
+    });
+    printing::number(rt, refusal::outcome_number(opened.map(|_| ())) as u64)?;
+    printing::number(rt, header.size_block as u64)?;
+    printing::number(rt, header.page_number as u64)?;
+    printing::number(rt, header.used as u64)?;
     tell_output(rt, is_written(&out, &sealed), all_marks(&out, 0, MARK))?;
     tell_scratch(rt, &scratch)
 }

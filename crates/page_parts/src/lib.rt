@@ -14,6 +14,7 @@ use filling::fill_for;
 use key_lists::Direction;
 
 // The header enciphered, which the chaining of the payload starts from. The key's list is left in the room.
+#[tactic(auto, using(key_lists::proofs::Lists::read_list))]
 pub fn start_under(key: &[u8], rounds: u32, page: &[u8], room: &mut [u8]) -> [[u8; 3]; 4]
     requires { Ready (length key.now) rounds (length room.old) × (length page.now ≡ 512) }
     ensures value { result ≡ enciphering key.now rounds (state_of (take 12 page.now)) }
@@ -27,6 +28,7 @@ pub fn start_under(key: &[u8], rounds: u32, page: &[u8], room: &mut [u8]) -> [[u
 }
 
 // The check over bytes 0 to 503 of a page, as they are stored.
+#[tactic(auto, using(key_lists::proofs::Lists::read_list), unfolding(pages::specs::Pages::check_over))]
 pub fn check_under(key: &[u8], rounds: u32, page: &[u8], room: &mut [u8]) -> [u8; 8]
     requires { Ready (length key.now) rounds (length room.old) × (length page.now ≡ 512) }
     ensures value { result ≡ check_over (enciphering key.now rounds) (take 504 page.now) }
@@ -35,10 +37,11 @@ pub fn check_under(key: &[u8], rounds: u32, page: &[u8], room: &mut [u8]) -> [u8
     let count = rounds as usize;
     fill_for(Direction::Enciphering, key, count, room);
     let n = 12 * (count + 1);
-    let last = chain::last_of_chain(&room[..n], [[0u8; 3]; 4], &page[..504]);
+    let stored = &page[..504];
+    let last = chain::last_of_chain(&room[..n], [[0u8; 3]; 4], stored);
     let mut bytes = [0u8; 12];
     blocks::write_state(&mut bytes, last);
-    [
-        bytes[0], bytes[1], bytes[2], bytes[3], bytes[4], bytes[5], bytes[6], bytes[7],
-    ]
+    let mut check = [0u8; 8];
+    check.copy_from_slice(&bytes[..8]);
+    check
 }

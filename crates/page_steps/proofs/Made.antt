@@ -1,16 +1,16 @@
 -- A page as it is made in the output: header and payload laid out, the payload chained, the check put after it.
 use mathlib.Core.Path.{◌≡◌, refl, sym, ap, ap₂, ◌∙◌}
-use mathlib.Core.List.{List, [], ◌++◌, append_assoc, append-nil}
+use mathlib.Core.List.{List, [], ◌++◌, append_assoc}
 use Prim.Native.Nat.{ℕ, ◌+◌, ◌-◌, ◌≤◌}
 use native.Mathlib.Omega.{arith}
-use lib.ListN.{length, take, drop, replicate, length-append, length-take, length-drop, drop_of_length-le}
+use lib.ListN.{length, take, drop, replicate, length-append, length-take, length-drop}
 use lib.Seq.{take_at, drop_at}
 use Rattle.layers.specs.State.{State}
 use Rattle.block_bytes.specs.Blocks.{state_of}
 use Rattle.block_bytes.proofs.Put.{put_after, put_next}
 use Rattle.chaining.specs.Chaining.{chained_bytes}
 use Rattle.pages.specs.Pages.{filled, stored, check_over}
-use Rattle.pages.proofs.Lengths.{length-filled, length-stored, length-check}
+use Rattle.pages.proofs.Lengths.{length-filled, length-stored}
 
 -- ---- laid out
 module _ (head payload out₀ : List ℕ) (twelve : length head ≡ 12) (fits : length payload ≤ 492) (size : length out₀ ≡ 512) where
@@ -65,11 +65,3 @@ module _ (f h : State → State) (head payload rest : List ℕ) (twelve : length
   made-page o₁ o₂ o₃ e₁ e₂ e₃ =
       let s = stored f head payload in
       e₃ ∙ ap (λ (x : List ℕ). x ++ check_over h x) (ap (take 504) (made-stored o₁ o₂ e₁ e₂) ∙ take_at s rest 504 (length-stored f head payload twelve fits))
-
--- the check put after what is stored, where 512 bytes have room for no more
-pub checked : (h : State → State) (out check : List ℕ) → length out ≡ 512 → check ≡ check_over h (take 504 out)
-    → take 504 out ++ (check ++ drop (504 + length check) out) ≡ take 504 out ++ check_over h (take 504 out)
-checked h out check size e =
-    let l : length check ≡ 8 = ap length e ∙ length-check h (take 504 out) in
-    ap (λ (x : List ℕ). take 504 out ++ x)
-    (ap (λ (x : List ℕ). check ++ x) (drop_of_length-le out {i = 504 + length check} (omega (arith, size, l))) ∙ append-nil check ∙ e)

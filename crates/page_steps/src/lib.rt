@@ -10,6 +10,8 @@ ghost use Rattle.pages.specs.Pages.{header, filled, check_over};
 ghost use Rattle.pages.specs.Keyed.{enciphering};
 ghost use Rattle.page_parts.specs.ForProver.{Ready};
 
+use pages::Header;
+
 // The header and the payload as they are sealed, before anything is enciphered.
 pub fn lay_out(size_block: u32, page_number: u16, payload: &[u8], out: &mut [u8])
     requires { (length payload.now ≤ 492) × (length out.old ≡ 512) }
@@ -17,13 +19,18 @@ pub fn lay_out(size_block: u32, page_number: u16, payload: &[u8], out: &mut [u8]
         ≡ header size_block page_number (length payload.now) ++ (filled payload.now ++ drop 504 out.old) }
 {
     let used = payload.len();
-    let head = pages::header_of(size_block, page_number, used as u16);
+    let head = pages::header_of(Header {
+        size_block,
+        page_number,
+        used: used as u16,
+    });
     blocks::put_bytes(out, 0, &head);
     blocks::put_bytes(out, 12, payload);
     byte_slices::clear(&mut out[12 + used..504]);
 }
 
 // The payload chained in its place, from the header enciphered.
+#[tactic(auto, using(key_lists::proofs::Lists::read_list))]
 pub fn chain_payload(key: &[u8], rounds: u32, room: &mut [u8], out: &mut [u8])
     requires { Ready (length key.now) rounds (length room.old) × (length out.old ≡ 512) }
     ensures out_after { out.new

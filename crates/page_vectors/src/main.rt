@@ -3,6 +3,7 @@
 
 #![tactic(auto)]
 
+use pages::Header;
 use std::io;
 
 // A page opens to the payload and the numbers that were sealed.
@@ -11,24 +12,15 @@ fn opens(
     second_key: &[u8],
     rounds: u32,
     page: &[u8],
-    header: [u8; 12],
+    header: Header,
     payload: &[u8],
 ) -> bool {
     let mut scratch = [0u8; 576];
     let mut out = [0u8; 492];
-    let opened = opening::open(first_key, second_key, rounds, page, &mut scratch, &mut out);
-    let outcome = opened.outcome;
-    if refusal::is_refused(outcome) {
-        return false;
+    match opening::open(first_key, second_key, rounds, page, &mut scratch, &mut out) {
+        Ok(found) => found == header && byte_slices::same(&out, payload),
+        Err(_) => false,
     }
-    let block = opened.size_block;
-    let number = opened.page_number;
-    let used = opened.used;
-    let answered = pages::header_of(block, number, used);
-    if byte_slices::same(&answered, &header) {
-        return byte_slices::same(&out, payload);
-    }
-    false
 }
 
 // One page under two keys: it is sealed, printed and opened.
@@ -45,7 +37,7 @@ fn page_line(
     let number = numbers::two_from(numbers[4], numbers[5]);
     let mut scratch = [0u8; 576];
     let mut page = [0u8; 512];
-    sealing::seal(
+    let _ = sealing::seal(
         first_key,
         second_key,
         rounds,
@@ -65,7 +57,11 @@ fn page_line(
     printing::number(rt, used as u64)?;
     printing::space(rt)?;
     printing::hex_bytes(rt, &page)?;
-    let header = pages::header_of(block, number, (used % 65536) as u16);
+    let header = Header {
+        size_block: block,
+        page_number: number,
+        used: (used % 65536) as u16,
+    };
     if !opens(first_key, second_key, rounds, &page, header, payload) {
         printing::word(rt, b" does not open")?;
     }

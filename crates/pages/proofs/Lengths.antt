@@ -40,6 +40,6 @@ length_payload f g page size =
     let n = length-take-le 492 (drop 12 page) (omega (arith, length-drop 12 page, size)) in
     length_unchained_bytes (f (state_of (take 12 page))) part 41 n g
 
-pub length-cleared : length cleared ≡ 576
+pub length_cleared : length cleared ≡ 576
 unfolding cleared
-length-cleared = length-replicate {A = ℕ} 576 0
+length_cleared = length-replicate {A = ℕ} 576 0

@@ -1,5 +1,5 @@
--- What checking a queue of grants answers, on a roll by value: request 2, "The morning queue".
-use Rattle.std.specs.Prelude.{List, ℕ, length}
+-- What checking a queue of grants on a roll answers: request 2, "The morning queue".
+use Rattle.std.specs.Prelude.{Bool, ◌&&◌, List, ℕ, length}
 use Rattle.rounds.specs.Rounds.{listed_from}
 use Rattle.refusal.specs.Tries.{Try, first, written}
 use Rattle.roll.specs.declared.Roll.{Roll}
@@ -15,6 +15,11 @@ queue_answers key rounds roll grants size_block right =
 abbrev pub queue_tries : List ℕ → ℕ → List ℕ → ℕ → ℕ → List ℕ → List Try
 queue_tries key rounds grants size_block right out =
     queue_input_tries (length key) rounds (queue_length (length grants)) (length grants) (length out) size_block right
+
+-- and where what holds the roll may not be a whole one: 3 is then tried of both lengths together
+abbrev pub queue_tries_on : Bool → List ℕ → ℕ → List ℕ → ℕ → ℕ → List ℕ → List Try
+queue_tries_on whole key rounds grants size_block right out =
+    queue_input_tries (length key) rounds (whole && queue_length (length grants)) (length grants) (length out) size_block right
 
 -- its number, and what the lent answers hold after it
 abbrev pub queue_number : List ℕ → ℕ → List ℕ → ℕ → ℕ → List ℕ → ℕ

@@ -11,78 +11,48 @@ const MARK: u8 = 165;
 
 const GRANTS: usize = 65;
 
-fn byte(n: usize) -> u8 {
-    (n % 256) as u8
-}
-
 // Plain bytes: contractor, count, size block and right, and the mark of a grant.
-fn plain(contractor: u8, count: u8, block: usize, right: u8) -> [u8; 12] {
+fn plain(contractor: u8, count: u8, block: u32, right: u8) -> [u8; 12] {
+    let block = block.to_be_bytes();
     [
-        0,
-        contractor,
-        0,
-        count,
-        byte(block / 16777216),
-        byte(block / 65536),
-        byte(block / 256),
-        byte(block),
-        right,
-        71,
-        82,
-        68,
+        0, contractor, 0, count, block[0], block[1], block[2], block[3], right, 71, 82, 68,
     ]
 }
 
 // Seventeen kinds of grants. Asked for size block 300, two open for overwriting and eight for reading.
 fn kind(n: usize) -> [u8; 12] {
-    if n == 0 {
-        plain(1, 1, 300, 2)
-    } else if n == 1 {
-        plain(1, 1, 300, 1)
-    } else if n == 2 {
-        plain(1, 1, 301, 2)
-    } else if n == 3 {
-        plain(1, 1, 300, 3)
-    } else if n == 4 {
-        plain(2, 2, 300, 2)
-    } else if n == 5 {
-        plain(3, 1, 300, 2)
-    } else if n == 6 {
-        plain(3, 3, 300, 2)
-    } else if n < 15 {
-        kind_of_reader(n)
-    } else {
-        kind_of_block(n)
+    match n {
+        0 => plain(1, 1, 300, 2),
+        1 => plain(1, 1, 300, 1),
+        2 => plain(1, 1, 301, 2),
+        3 => plain(1, 1, 300, 3),
+        4 => plain(2, 2, 300, 2),
+        5 => plain(3, 1, 300, 2),
+        6 => plain(3, 3, 300, 2),
+        7..15 => kind_of_reader(n),
+        _ => kind_of_block(n),
     }
 }
 
 // Those of contractors in standing who may only read.
 fn kind_of_reader(n: usize) -> [u8; 12] {
-    if n == 7 {
-        plain(5, 5, 300, 2)
-    } else if n == 8 {
-        plain(7, 7, 300, 1)
-    } else if n == 9 {
-        plain(7, 7, 300, 2)
-    } else if n == 10 {
-        plain(7, 7, 301, 2)
-    } else if n == 11 {
-        plain(9, 9, 300, 2)
-    } else if n == 12 {
-        plain(7, 7, 300, 3)
-    } else if n == 13 {
-        plain(11, 11, 300, 2)
-    } else {
-        plain(5, 3, 300, 2)
+    match n {
+        7 => plain(5, 5, 300, 2),
+        8 => plain(7, 7, 300, 1),
+        9 => plain(7, 7, 300, 2),
+        10 => plain(7, 7, 301, 2),
+        11 => plain(9, 9, 300, 2),
+        12 => plain(7, 7, 300, 3),
+        13 => plain(11, 11, 300, 2),
+        _ => plain(5, 3, 300, 2),
     }
 }
 
 // Those for other size blocks: for 0, as one that was issued before that was refused, and for one of which the lower three bytes are 0.
 fn kind_of_block(n: usize) -> [u8; 12] {
-    if n == 15 {
-        plain(1, 1, 0, 2)
-    } else {
-        plain(1, 1, 16777216, 2)
+    match n {
+        15 => plain(1, 1, 0, 2),
+        _ => plain(1, 1, 16777216, 2),
     }
 }
 
@@ -92,7 +62,7 @@ fn grants() -> [u8; 780] {
     let mut out = [0u8; 780];
     for i in 0..GRANTS {
         let at = 12 * i;
-        cipher::encipher(&key, 10, &kind(i % 17), &mut out[at..at + 12]);
+        let _ = cipher::encipher(&key, 10, &kind(i % 17), &mut out[at..at + 12]);
     }
     out
 }

@@ -50,9 +50,3 @@ module _ {number : List ℕ → ℕ} {grants out₀ : List ℕ} where
       same = length-set out i x ∙ a.same;
       is = ap (set out i) (e ∙ ap number (lent grants i)) ∙ put_next (λ j. number (grant_at grants j)) i out₀ out (omega arith) a.is;
     }
-
-    pub ends : grants_in (length grants) ≤ i
-        → out ≡ listed_from 0 (grants_in (length grants)) (λ j. number (grant_at grants j)) ++ drop (grants_in (length grants)) out₀
-    ends h =
-        let e : i ≡ grants_in (length grants) = omega (arith, a.most) in
-        a.is ∙ ap (λ (n : ℕ). listed_from 0 n (λ j. number (grant_at grants j)) ++ drop n out₀) e

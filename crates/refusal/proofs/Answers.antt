@@ -76,11 +76,3 @@ answer_either P n done refused f r = by (eqb n 0) refl
     by : (b : Bool) → eqb n 0 ≡ b → P (cond b done refused)
     by true e = f (eqb-true n 0 e)
     by false e = r
-
--- what a call by value shows at a return, with one try: x is what it answers with
-module _ {A : Type 0} (ts : List Try) (work none x : A) where
-  pub value_refused : (n : ℕ) → 0 < n → first ts ≡ n → x ≡ none → (n ≡ first ts) × (x ≡ answered (first ts) work none)
-  value_refused n h e ex = (sym e, ex ∙ answer-refused ts n work none h e)
-
-  pub value_done : first ts ≡ 0 → x ≡ work → (0 ≡ first ts) × (x ≡ answered (first ts) work none)
-  value_done e ex = (sym e, ex ∙ answer-done ts work none e)

@@ -9,8 +9,7 @@ use Rattle.refusal.specs.declared.Reason.{Reason}
 use Rattle.refusal.specs.declared.Reason.TheVariants.{KeyLength, RoundCount, InputLength, OutputTooShort, StageOrList, Contractor, UnknownRight}
 use Rattle.refusal.specs.declared.Reason.TheVariants.{NotAGrant, OtherBlock, OtherRight, NotAPage, PayloadTooLong, CheckDiffers, BlockZero}
 use Rattle.refusal.specs.declared.Reason.TheVariants.{NotInStanding, InStanding, CountSpent, OtherCount, BrokenHolder, AboveHighest}
-use Rattle.refusal.specs.declared.Outcome.{Outcome}
-use Rattle.refusal.specs.declared.Outcome.TheVariants.{Done, Refused}
+use Rattle.std.specs.Prelude.{Result, Ok, Err}
 use Rattle.refusal.specs.Reasons.{reason_number, outcome_number}
 use Rattle.refusal.specs.Claims.{NumbersTellReasons, NumbersTellOutcomes, NoneHoldsNoneGiven, NoneGivenNoneHolds, GivenIsFirst}
 use Rattle.refusal.proofs.Reasons.{reason_positive}
@@ -53,19 +52,19 @@ unfolding NumbersTellReasons
 numbers_tell_reasons r s e = sym (reason-number r) ∙ ap reason e ∙ reason-number s
 
 -- ---- an answer from its number
-outcome : ℕ → Outcome
-outcome n = cond (eqb n 0) Done (Refused (reason n))
+outcome : ℕ → Result (Unit {0}) Reason
+outcome n = cond (eqb n 0) (Ok tt) (Err (reason n))
 
-not_zero : (r : Reason) → outcome (reason_number r) ≡ Refused (reason (reason_number r))
+not_zero : (r : Reason) → outcome (reason_number r) ≡ Err (reason (reason_number r))
 unfolding outcome
 not_zero r =
     let n = reason_number r in
-    ap (λ (b : Bool). cond b Done (Refused (reason n))) (ne_eqb n 0 (λ e. omega (arith, reason_positive r, e)))
+    ap (λ (b : Bool). cond b (Ok tt) (Err (reason n))) (ne_eqb n 0 (λ e. omega (arith, reason_positive r, e)))
 
-outcome_number_lem : (o : Outcome) → outcome (outcome_number o) ≡ o
+outcome_number_lem : (o : Result (Unit {0}) Reason) → outcome (outcome_number o) ≡ o
 unfolding outcome
-outcome_number_lem Done = refl
-outcome_number_lem (Refused r) = not_zero r ∙ ap Refused (reason-number r)
+outcome_number_lem (Ok tt) = refl
+outcome_number_lem (Err r) = not_zero r ∙ ap Err (reason-number r)
 
 pub numbers_tell_outcomes : NumbersTellOutcomes
 unfolding NumbersTellOutcomes

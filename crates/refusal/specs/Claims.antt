@@ -1,7 +1,6 @@
 -- What is claimed of refusals. A term of each type stands in proofs/Claims.antt.
-use Rattle.std.specs.Prelude.{false, ◌≡◌, List, [], ◌∷◌, ◌++◌, ◌<◌}
+use Rattle.std.specs.Prelude.{false, ◌≡◌, Result, List, [], ◌∷◌, ◌++◌, ◌<◌}
 use Rattle.refusal.specs.declared.Reason.{Reason}
-use Rattle.refusal.specs.declared.Outcome.{Outcome}
 use Rattle.refusal.specs.Reasons.{reason_number, outcome_number}
 use Rattle.refusal.specs.Tries.{Try, first, NoneHolds}
 
@@ -10,7 +9,7 @@ unfoldable pub NumbersTellReasons : Type 0
 NumbersTellReasons = (r s : Reason) → reason_number r ≡ reason_number s → r ≡ s
 
 unfoldable pub NumbersTellOutcomes : Type 0
-NumbersTellOutcomes = (o p : Outcome) → outcome_number o ≡ outcome_number p → o ≡ p
+NumbersTellOutcomes = (o p : Result (Unit {0}) Reason) → outcome_number o ≡ outcome_number p → o ≡ p
 
 -- where no reason holds, no number is given
 unfoldable pub NoneHoldsNoneGiven : Type 0

@@ -1,3 +1,4 @@
 pub mod Reasons
 pub mod Tries
+pub mod Required
 pub mod Claims

@@ -1,13 +1,11 @@
 -- The numbers of the reasons: document 01, "Reasons found in the input" and "Reasons found in the state"; 10 as request 1 has it, 3 and 4
 -- also as request 2 has them, 1 and 4 also as request 3 has them, whose own are 11 to 13, and 3 also as request 6 has it, whose own is 25.
 -- Request 7's own is 14.
-use Rattle.std.specs.Prelude.{ℕ}
+use Rattle.std.specs.Prelude.{ℕ, Result, Ok, Err}
 use Rattle.refusal.specs.declared.Reason.{Reason}
 use Rattle.refusal.specs.declared.Reason.TheVariants.{KeyLength, RoundCount, InputLength, OutputTooShort, StageOrList, Contractor, UnknownRight}
 use Rattle.refusal.specs.declared.Reason.TheVariants.{NotAGrant, OtherBlock, OtherRight, NotAPage, PayloadTooLong, CheckDiffers, BlockZero}
 use Rattle.refusal.specs.declared.Reason.TheVariants.{NotInStanding, InStanding, CountSpent, OtherCount, BrokenHolder, AboveHighest}
-use Rattle.refusal.specs.declared.Outcome.{Outcome}
-use Rattle.refusal.specs.declared.Outcome.TheVariants.{Done, Refused}
 
 abbrev pub reason_number : Reason → ℕ
 -- key not 12, 18 or 24 bytes; also two keys for a page that are equal or of unequal lengths
@@ -54,6 +52,6 @@ reason_number BrokenHolder = 24
 reason_number AboveHighest = 25
 
 -- the number that an answer stands for: 0 where the work was done
-abbrev pub outcome_number : Outcome → ℕ
-outcome_number Done = 0
-outcome_number (Refused r) = reason_number r
+abbrev pub outcome_number : {T : Type 0} → Result T Reason → ℕ
+outcome_number (Ok done) = 0
+outcome_number (Err r) = reason_number r

@@ -1,6 +1,6 @@
 -- The order of refusals: document 01's order lines as lists of tries. A call tries its reasons in order, and the first that holds is
 -- the one given; where none holds, it does not refuse.
-use Rattle.std.specs.Prelude.{Bool, true, false, cond, ◌≡◌, List, [], ◌∷◌, ◌++◌, ℕ, zero, suc, eqb, length, drop}
+use Rattle.std.specs.Prelude.{Bool, true, cond, ◌≡◌, List, [], ◌∷◌, ◌++◌, ℕ, eqb, length, drop}
 
 -- a reason's number, and the test that has to pass for the reason not to hold
 pub record Try : Type 0 where
@@ -15,16 +15,6 @@ abbrev pub ◌unless◌ : ℕ → Bool → Try
 unfoldable pub first : List Try → ℕ
 first [] = 0
 first (t ∷ ts) = cond t.passes (first ts) t.number
-
--- tries that go on from a number: it stays where it is a refusal's, and else the first reason of the list that holds gives it
-unfoldable pub after : ℕ → List Try → ℕ
-after zero ts = first ts
-after (suc n) ts = suc n
-
--- a number that is a refusal's
-unfoldable pub is_refused : ℕ → Bool
-is_refused zero = false
-is_refused (suc n) = true
 
 -- no reason of a list holds
 abbrev pub NoneHolds : List Try → Type 0

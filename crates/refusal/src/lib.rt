@@ -1,13 +1,13 @@
-// Why a call refuses: the reasons by name, their numbers, and the answer of a call that either does its work or refuses.
+// Why a call refuses: the reasons by name, their numbers, and one try of a call. A call answers with a Result: what it makes, or a reason.
 
 #![tactic(auto)]
 
-ghost use Rattle.std.specs.Prelude.{◌≡◌, [], ◌∷◌};
+ghost use Rattle.std.specs.Prelude.{◌≡◌};
 ghost use Rattle.refusal.specs.Reasons.{reason_number, outcome_number};
-ghost use Rattle.refusal.specs.Tries.{◌unless◌, after, is_refused};
+ghost use Rattle.refusal.specs.Required.{required};
 
 // Document 01's reasons found in the input and in the state, and those that requests add.
-#[derive(Clone, Copy)]
+#[derive(Clone, Copy, Debug, PartialEq, Eq)]
 pub enum Reason {
     KeyLength,
     RoundCount,
@@ -31,69 +31,49 @@ pub enum Reason {
     AboveHighest,
 }
 
-// What a call answers: that it did its work, or why it refused.
-#[derive(Clone, Copy)]
-pub enum Outcome {
-    Done,
-    Refused(Reason),
-}
-
 // Document 01's number of a reason.
-pub fn reason_number(r: Reason) -> u32
-    ensures { result ≡ reason_number r }
-{
-    match r {
-        Reason::KeyLength => 1,
-        Reason::RoundCount => 2,
-        Reason::InputLength => 3,
-        Reason::OutputTooShort => 4,
-        Reason::StageOrList => 5,
-        Reason::Contractor => 6,
-        Reason::UnknownRight => 7,
-        Reason::NotAGrant => 8,
-        Reason::OtherBlock => 9,
-        Reason::OtherRight => 10,
-        Reason::NotAPage => 11,
-        Reason::PayloadTooLong => 12,
-        Reason::CheckDiffers => 13,
-        Reason::BlockZero => 14,
-        Reason::NotInStanding => 20,
-        Reason::InStanding => 21,
-        Reason::CountSpent => 22,
-        Reason::OtherCount => 23,
-        Reason::BrokenHolder => 24,
-        Reason::AboveHighest => 25,
+impl From<Reason> for u32 {
+    ghost from_gives = { λ reason n. n ≡ reason_number reason };
+
+    fn from(reason: Reason) -> u32 {
+        match reason {
+            Reason::KeyLength => 1,
+            Reason::RoundCount => 2,
+            Reason::InputLength => 3,
+            Reason::OutputTooShort => 4,
+            Reason::StageOrList => 5,
+            Reason::Contractor => 6,
+            Reason::UnknownRight => 7,
+            Reason::NotAGrant => 8,
+            Reason::OtherBlock => 9,
+            Reason::OtherRight => 10,
+            Reason::NotAPage => 11,
+            Reason::PayloadTooLong => 12,
+            Reason::CheckDiffers => 13,
+            Reason::BlockZero => 14,
+            Reason::NotInStanding => 20,
+            Reason::InStanding => 21,
+            Reason::CountSpent => 22,
+            Reason::OtherCount => 23,
+            Reason::BrokenHolder => 24,
+            Reason::AboveHighest => 25,
+        }
     }
 }
 
 // The number of a refusal, or 0.
-pub fn outcome_number(o: Outcome) -> u32
-    ensures { result ≡ outcome_number o }
+pub fn outcome_number(outcome: Result<(), Reason>) -> u32
+    ensures { result ≡ outcome_number outcome }
 {
-    match o {
-        Outcome::Done => 0,
-        Outcome::Refused(r) => reason_number(r),
+    match outcome {
+        Ok(()) => 0,
+        Err(reason) => u32::from(reason),
     }
 }
 
-// One try more: the answer so far, unless the work would have been done and the test does not pass.
-pub fn unless(prior: Outcome, reason: Reason, passes: bool) -> Outcome
-    ensures { outcome_number result ≡ after (outcome_number prior) ((reason_number reason unless passes) ∷ []) }
+// One try: the call goes on where the test passes, and else refuses for this reason.
+pub fn require(passes: bool, reason: Reason) -> Result<(), Reason>
+    ensures { result ≡ required passes reason }
 {
-    if passes {
-        return prior;
-    }
-    match prior {
-        Outcome::Done => Outcome::Refused(reason),
-        Outcome::Refused(earlier) => Outcome::Refused(earlier),
-    }
-}
-
-pub fn is_refused(o: Outcome) -> bool
-    ensures { result ≡ is_refused (outcome_number o) }
-{
-    match o {
-        Outcome::Done => false,
-        Outcome::Refused(reason) => true,
-    }
+    if passes { Ok(()) } else { Err(reason) }
 }

@@ -14,9 +14,8 @@ use Rattle.roll.specs.declared.Entry.{Entry}
 use Rattle.roll.specs.Roll.{entry_of}
 use Rattle.histories.specs.Histories.{Change, roll_after, Spares}
 use Rattle.histories.proofs.Calls.{after_other}
-use Rattle.grant.specs.declared.Verdict.{Verdict}
-use Rattle.grant.specs.declared.Verdict.TheVariants.{Opens, Refused}
-use Rattle.grant.specs.Grants.{contractor_in, verdict_number, verdict_contractor, verdict_right}
+use Rattle.std.specs.Prelude.{Ok, Err}
+use Rattle.grant.specs.Grants.{Verdict, contractor_in, verdict_number, verdict_contractor, verdict_right}
 use Rattle.rights.proofs.Rights.{right_tells}
 use Rattle.judging.specs.Judging.{input_tries, plain_tries}
 use Rattle.checking.specs.Checking.{opened_grant, check_number, check_contractor, check_right}
@@ -51,7 +50,7 @@ same_check key rounds roll grant block asked hs s =
 pub verdicts_told : (v w : Verdict)
     → verdict_number v ≡ verdict_number w → verdict_contractor v ≡ verdict_contractor w → verdict_right v ≡ verdict_right w → v ≡ w
 unfolding NumbersTellReasons
-verdicts_told (Opens g) (Opens h) n c r = λ i. Opens record { contractor = c i; right = right_tells g.right h.right r i }
-verdicts_told (Opens g) (Refused s) n c r = let z : ⊥ = omega (arith, n, reason_positive s) in absurd z
-verdicts_told (Refused s) (Opens g) n c r = let z : ⊥ = omega (arith, n, reason_positive s) in absurd z
-verdicts_told (Refused s) (Refused u) n c r = ap Refused (numbers_tell_reasons s u n)
+verdicts_told (Ok g) (Ok h) n c r = λ i. Ok record { contractor = c i; right = right_tells g.right h.right r i }
+verdicts_told (Ok g) (Err s) n c r = let z : ⊥ = omega (arith, n, reason_positive s) in absurd z
+verdicts_told (Err s) (Ok g) n c r = let z : ⊥ = omega (arith, n, reason_positive s) in absurd z
+verdicts_told (Err s) (Err u) n c r = ap Err (numbers_tell_reasons s u n)

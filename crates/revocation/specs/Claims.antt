@@ -8,10 +8,9 @@ use Rattle.roll.specs.declared.Roll.{Roll}
 use Rattle.roll.specs.Roll.{empty_roll, count_of, figure_of}
 use Rattle.roll_changes.specs.Changes.{enter_tries, entered_roll, withdraw_tries, change_tries}
 use Rattle.histories.specs.Histories.{Change, enter, change, withdraw, roll_after, Withdrawn, Withdraws, Spares, Merge, IsRoll}
-use Rattle.grant.specs.declared.Verdict.{Verdict}
 use Rattle.rights.specs.Rights.{is_right, covers, highest}
 use Rattle.key_lists.specs.Claims.{Settings}
-use Rattle.grant.specs.Grants.{plain_grant, contractor_in, count_in, right_in, is_grant, verdict_number, verdict_contractor, verdict_right}
+use Rattle.grant.specs.Grants.{Verdict, plain_grant, contractor_in, count_in, right_in, is_grant, verdict_number, verdict_contractor, verdict_right}
 use Rattle.issuing.specs.Issuing.{issue_tries, issue_number, issued_grant}
 use Rattle.checking.specs.Checking.{opened_grant, check_tries, check_number, check_contractor, check_right}
 

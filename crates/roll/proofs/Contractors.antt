@@ -2,10 +2,9 @@
 use mathlib.Core.Path.{◌≡◌, ap}
 use mathlib.Core.Bool.{Bool, true, false, cond}
 use Prim.Native.Nat.{ℕ, ◌-◌, ◌%◌, ◌≤◌, ◌<◌}
-use lib.Dec.{eqb, ltb, leb}
 use lib.ListN.{get_or}
-use borrow.Author.Tests.{leb-true, le-leb, lt-ltb, ltb-true, eqb-true, eq-eqb}
-use Rattle.basics.proofs.Tests.{and_first, and_second}
+use native.Mathlib.Omega.{arith}
+use Rattle.std.proofs.lemmas.Bool.Decides.{nat_tests}
 use Rattle.roll.specs.declared.Roll.{Roll}
 use Rattle.roll.specs.Roll.{is_contractor, count_of, figure_of, entry_of, in_standing}
 
@@ -15,10 +14,10 @@ pub record Contractor (c : ℕ) : Type 0 where
   pub most : c ≤ 200
 
 pub a_contractor : (c : ℕ) → is_contractor c ≡ true → Contractor c
-a_contractor c e = record { least = leb-true 1 c (and_first (leb 1 c) (leb c 200) e); most = leb-true c 200 (and_second (leb 1 c) (leb c 200) e) }
+a_contractor c e = record { least = grind (arith, nat_tests); most = grind (arith, nat_tests) }
 
 pub is-contractor : (c : ℕ) → Contractor c → is_contractor c ≡ true
-is-contractor c h = rw (le-leb 1 c h.least, le-leb c 200 h.most)
+is-contractor c h = grind (arith, nat_tests)
 
 -- the count and the figure of a contractor, and the entry of nobody
 pub count-is : (roll : Roll) (c : ℕ) → is_contractor c ≡ true → count_of roll c ≡ get_or roll.counts (c - 1) 0
@@ -43,12 +42,8 @@ pub record Standing (n : ℕ) : Type 0 where
 
 pub a_standing : (n : ℕ) → in_standing n ≡ true → Standing n
 unfolding in_standing
-a_standing n e = record {
-  odd = eqb-true (n % 2) 1 (and_first (eqb (n % 2) 1) (ltb n 65535) e);
-  below = ltb-true n 65535
-      (and_second (eqb (n % 2) 1) (ltb n 65535) e);
-}
+a_standing n e = record { odd = grind (arith, nat_tests); below = grind (arith, nat_tests) }
 
 pub is_standing : (n : ℕ) → Standing n → in_standing n ≡ true
 unfolding in_standing
-is_standing n h = rw (eq-eqb (n % 2) 1 h.odd, lt-ltb n 65535 h.below)
+is_standing n h = grind (arith, nat_tests)

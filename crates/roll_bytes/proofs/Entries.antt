@@ -4,41 +4,30 @@ use mathlib.Core.Bool.{true}
 use mathlib.Core.List.{List, ◌++◌, append_assoc}
 use Prim.Native.Nat.{ℕ, ◌+◌, ◌-◌, ◌*◌, ◌/◌, ◌%◌, ◌≤◌, ◌<◌}
 use native.Mathlib.Omega.{arith}
-use lib.ListN.{length, get_or, set, take, drop, replicate, length-take, length-drop, take-append-drop, get_or-eq_default, length-replicate}
+use lib.ListN.{length, length-take, get_or, set, take, drop, replicate, length-drop, take-append-drop, length-replicate}
 use lib.Seq.{get_or-take, get_or-drop, take-set-le, take-set-lt, drop-set-lt, drop-set-add, length-take-le, take_at, drop_at, drop-drop}
 use Rattle.basics.specs.Bytes.{AreBytes}
 use Rattle.basics.proofs.Bytes.{take-bytes}
 use Rattle.numbers.specs.Numbers.{two_from}
 use Rattle.roll.specs.declared.Entry.{Entry}
-use Rattle.roll.specs.Roll.{empty_roll, is_contractor, count_of, figure_of, with_entry}
-use Rattle.roll.proofs.Contractors.{a_contractor, count-is, figure_is}
-use Rattle.roll_bytes.specs.RollBytes.{roll_length, counts_length, roll_of, counts_bytes, roll_bytes}
+use Rattle.roll.specs.Roll.{empty_roll, is_contractor, with_entry}
+use Rattle.roll.proofs.Contractors.{a_contractor}
+use Rattle.roll_bytes.specs.RollBytes.{roll_length, counts_length, counts_of, roll_of, counts_bytes, roll_bytes}
 use Rattle.roll_bytes.proofs.Pairs.{count_at, count_past, count_put}
 
--- ---- read
-module _ (bytes : List ℕ) (c : ℕ) (e : is_contractor c ≡ true) where
-  -- a count where its two bytes are there, and where they are not
-  pub count-read : 2 * (c - 1) + 2 ≤ length bytes → count_of (roll_of bytes) c ≡ two_from (get_or bytes (2 * (c - 1)) 0) (get_or bytes (2 * (c - 1) + 1) 0)
-  unfolding roll_of
-  count-read h =
-      let k = a_contractor c e in
-      let at = 2 * (c - 1) in
-      let l = length-take counts_length bytes in
-      count-is (roll_of bytes) c e ∙ count_at (take counts_length bytes) (c - 1) (omega (arith, l, k.most))
-      ∙ ap₂ two_from (get_or-take counts_length bytes at 0 (omega (arith, k.most))) (get_or-take counts_length bytes (at + 1) 0 (omega (arith, k.most)))
+-- ---- read: a count where its two bytes are there, and where they are not; and a figure
+pub count_read : (bytes : List ℕ) (i : ℕ) → i < 200 → 2 * i + 2 ≤ length bytes
+    → get_or (counts_of (take counts_length bytes)) i 0 ≡ two_from (get_or bytes (2 * i) 0) (get_or bytes (2 * i + 1) 0)
+count_read bytes i most long =
+    let n = counts_length in
+    count_at (take n bytes) i (omega (arith, length-take n bytes))
+    ∙ ap₂ two_from (get_or-take n bytes (2 * i) 0 (omega arith)) (get_or-take n bytes (2 * i + 1) 0 (omega arith))
 
-  pub count_short : length bytes < 2 * (c - 1) + 2 → count_of (roll_of bytes) c ≡ 0
-  unfolding roll_of
-  count_short h =
-      count-is (roll_of bytes) c e ∙ count_past (take counts_length bytes) (c - 1) (omega (arith, length-take counts_length bytes))
+pub count_short : (bytes : List ℕ) (i : ℕ) → length bytes < 2 * i + 2 → get_or (counts_of (take counts_length bytes)) i 0 ≡ 0
+count_short bytes i short = count_past (take counts_length bytes) i (omega (arith, length-take counts_length bytes))
 
-  -- a figure
-  pub figure_read : figure_of (roll_of bytes) c ≡ get_or bytes (counts_length + (c - 1)) 0
-  unfolding roll_of
-  figure_read = figure_is (roll_of bytes) c e ∙ get_or-drop counts_length bytes (c - 1) 0
-
-  pub figure_short : length bytes ≤ counts_length + (c - 1) → figure_of (roll_of bytes) c ≡ 0
-  figure_short h = figure_read ∙ get_or-eq_default bytes 0 h
+pub figure_read : (bytes : List ℕ) (i : ℕ) → get_or (drop counts_length bytes) i 0 ≡ get_or bytes (counts_length + i) 0
+figure_read bytes i = get_or-drop counts_length bytes i 0
 
 -- ---- written: the two bytes of a count and the byte of a figure, and no other
 pub entry_put : (bytes : List ℕ) (c : ℕ) (entry : Entry) → length bytes ≡ roll_length → AreBytes bytes → is_contractor c ≡ true

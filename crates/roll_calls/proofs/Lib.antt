@@ -1,1 +1,1 @@
-pub mod Changes
+pub mod Written

@@ -1,11 +1,15 @@
 -- What entering, withdrawing and changing the highest right answer: document 01, "Roll and grant", and the order line "roll 6, then 20 to 22", as
 -- request 6 amends them: entering tries 6, 7, 21, 22, withdrawing 6, 20, changing the right 6, 7, 20.
-use Rattle.std.specs.Prelude.{not, List, [], ◌∷◌, ℕ, ◌+◌, ltb}
+use Rattle.std.specs.Prelude.{Bool, not, List, [], ◌∷◌, ℕ, ◌+◌, ltb}
 use Rattle.refusal.specs.Tries.{Try, ◌unless◌, first, answered}
 use Rattle.rights.specs.Rights.{is_right}
 use Rattle.roll.specs.declared.Roll.{Roll}
 use Rattle.roll.specs.declared.Entry.{Entry}
 use Rattle.roll.specs.Roll.{is_contractor, count_of, entry_of, in_standing, with_entry}
+
+-- what holds the roll is tried first: 3 where that is not a whole one, which bytes that a host lends may not be, and a roll by value always is
+abbrev pub with_whole : Bool → List Try → List Try
+with_whole whole tries = (3 unless whole) ∷ tries
 
 -- ---- enter a contractor, whose count is this, with a highest right
 abbrev pub enter_tries : ℕ → ℕ → ℕ → List Try

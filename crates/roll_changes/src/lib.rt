@@ -1,49 +1,46 @@
-// Entering, withdrawing and changing the highest right on a roll by value. What they try, and what they make of a contractor's entry, is the same on
-// a roll's bytes.
+// Entering, withdrawing and changing the highest right on a roll, however it is held: what is tried, what becomes of a contractor's entry, and the calls.
 
 #![tactic(auto)]
 
-ghost use Rattle.std.specs.Prelude.{◌≡◌, true, ◌<◌};
+ghost use Rattle.std.specs.Prelude.{◌≡◌, true, ◌<◌, OnOk, OnErr};
+ghost use Rattle.std.specs.Result.{result_unwrap_or};
 ghost use Rattle.refusal.specs.Reasons.{outcome_number};
-ghost use Rattle.refusal.specs.Tries.{after};
+ghost use Rattle.refusal.specs.Tries.{first};
 ghost use Rattle.rights.specs.Rights.{is_right};
-ghost use Rattle.roll_changes.specs.Changes.{enter_tries, entered_entry, enter_number, entered_roll};
+ghost use Rattle.roll.specs.Roll.{count_of};
+ghost use Rattle.roll_changes.specs.Changes.{with_whole, enter_tries, entered_entry, enter_number, entered_roll};
 ghost use Rattle.roll_changes.specs.Changes.{withdraw_tries, withdrawn_entry, withdraw_number, withdrawn_roll};
 ghost use Rattle.roll_changes.specs.Changes.{change_tries, changed_entry, change_number, changed_roll};
 
-use refusal::{Outcome, Reason, unless};
+use refusal::{Reason, require};
 use rights::is_right;
-use roll::{Entry, Roll, entry_of, is_contractor, is_in_standing, with_entry};
+use roll::{AsRollMut, Entry, Roll, is_contractor, is_in_standing};
 
-// What a call that changes the roll answers.
-#[derive(Clone, Copy)]
-pub struct Changed {
-    pub outcome: Outcome,
-    pub roll: Roll,
+#[tactic(auto, unfolding(refusal::specs::Tries::first))]
+pub fn try_enter(contractor: u32, right: u32, count: u16) -> Result<(), Reason>
+    ensures { outcome_number result ≡ first (enter_tries contractor right count) }
+{
+    require(is_contractor(contractor), Reason::Contractor)?;
+    require(is_right(right), Reason::UnknownRight)?;
+    require(!is_in_standing(count), Reason::InStanding)?;
+    require(count < 65534, Reason::CountSpent)
 }
 
-pub fn try_enter(prior: Outcome, contractor: u32, right: u32, count: u16) -> Outcome
-    ensures { outcome_number result ≡ after (outcome_number prior) (enter_tries contractor right count) }
+#[tactic(auto, unfolding(refusal::specs::Tries::first))]
+pub fn try_withdraw(contractor: u32, count: u16) -> Result<(), Reason>
+    ensures { outcome_number result ≡ first (withdraw_tries contractor count) }
 {
-    let known = unless(prior, Reason::Contractor, is_contractor(contractor));
-    let given = unless(known, Reason::UnknownRight, is_right(right));
-    let outside = unless(given, Reason::InStanding, !is_in_standing(count));
-    unless(outside, Reason::CountSpent, count < 65534)
+    require(is_contractor(contractor), Reason::Contractor)?;
+    require(is_in_standing(count), Reason::NotInStanding)
 }
 
-pub fn try_withdraw(prior: Outcome, contractor: u32, count: u16) -> Outcome
-    ensures { outcome_number result ≡ after (outcome_number prior) (withdraw_tries contractor count) }
+#[tactic(auto, unfolding(refusal::specs::Tries::first))]
+pub fn try_change(contractor: u32, right: u32, count: u16) -> Result<(), Reason>
+    ensures { outcome_number result ≡ first (change_tries contractor right count) }
 {
-    let known = unless(prior, Reason::Contractor, is_contractor(contractor));
-    unless(known, Reason::NotInStanding, is_in_standing(count))
-}
-
-pub fn try_change(prior: Outcome, contractor: u32, right: u32, count: u16) -> Outcome
-    ensures { outcome_number result ≡ after (outcome_number prior) (change_tries contractor right count) }
-{
-    let known = unless(prior, Reason::Contractor, is_contractor(contractor));
-    let asked = unless(known, Reason::UnknownRight, is_right(right));
-    unless(asked, Reason::NotInStanding, is_in_standing(count))
+    require(is_contractor(contractor), Reason::Contractor)?;
+    require(is_right(right), Reason::UnknownRight)?;
+    require(is_in_standing(count), Reason::NotInStanding)
 }
 
 // What becomes of the entry of a contractor who is entered with a highest right.
@@ -74,55 +71,87 @@ pub fn changed_entry(right: u32, entry: Entry) -> Entry
     ensures { result ≡ changed_entry right «entry» }
 {
     Entry {
-        count: entry.count,
         figure: right as u8,
+        ..entry
     }
 }
 
 // Enters a contractor who is not in standing, with a highest right.
-pub fn enter(roll: Roll, contractor: u32, right: u32) -> Changed
-    ensures outcome_value { outcome_number result.outcome ≡ enter_number roll contractor right }
-    ensures roll_value { result.roll ≡ entered_roll roll contractor right }
+#[tactic(auto, unfolding(refusal::specs::Tries::first, refusal::specs::Tries::answered, crate::specs::Changes::entered_roll))]
+pub fn enter_on<R: AsRollMut>(roll: &mut R, contractor: u32, right: u32) -> Result<(), Reason>
+    ensures result_value { outcome_number result
+        ≡ first (with_whole (R.whole roll.old) (enter_tries contractor right (count_of (R.roll roll.old) contractor))) }
+    ensures roll_after { OnOk result (R.roll roll.new ≡ entered_roll (R.roll roll.old) contractor right) }
+    ensures whole_after { R.whole roll.new ≡ R.whole roll.old }
+    ensures kept { OnErr result (roll.new ≡ roll.old) }
 {
-    let entry = entry_of(roll, contractor);
-    let outcome = try_enter(Outcome::Done, contractor, right, entry.count);
-    if refusal::is_refused(outcome) {
-        return Changed { outcome, roll };
-    }
-    Changed {
-        outcome,
-        roll: with_entry(roll, contractor, entered_entry(right, entry)),
-    }
+    require(roll.is_whole(), Reason::InputLength)?;
+    let entry = roll.entry(contractor);
+    try_enter(contractor, right, entry.count)?;
+    roll.set_entry(contractor, entered_entry(right, entry));
+    Ok(())
 }
 
 // Withdraws a contractor who is in standing.
-pub fn withdraw(roll: Roll, contractor: u32) -> Changed
-    ensures outcome_value { outcome_number result.outcome ≡ withdraw_number roll contractor }
-    ensures roll_value { result.roll ≡ withdrawn_roll roll contractor }
+#[tactic(auto, unfolding(refusal::specs::Tries::first, refusal::specs::Tries::answered, roll::specs::Roll::in_standing, crate::specs::Changes::withdrawn_roll))]
+pub fn withdraw_on<R: AsRollMut>(roll: &mut R, contractor: u32) -> Result<(), Reason>
+    ensures result_value { outcome_number result
+        ≡ first (with_whole (R.whole roll.old) (withdraw_tries contractor (count_of (R.roll roll.old) contractor))) }
+    ensures roll_after { OnOk result (R.roll roll.new ≡ withdrawn_roll (R.roll roll.old) contractor) }
+    ensures whole_after { R.whole roll.new ≡ R.whole roll.old }
+    ensures kept { OnErr result (roll.new ≡ roll.old) }
 {
-    let entry = entry_of(roll, contractor);
-    let outcome = try_withdraw(Outcome::Done, contractor, entry.count);
-    if refusal::is_refused(outcome) {
-        return Changed { outcome, roll };
-    }
-    Changed {
-        outcome,
-        roll: with_entry(roll, contractor, withdrawn_entry(entry)),
-    }
+    require(roll.is_whole(), Reason::InputLength)?;
+    let entry = roll.entry(contractor);
+    try_withdraw(contractor, entry.count)?;
+    roll.set_entry(contractor, withdrawn_entry(entry));
+    Ok(())
 }
 
 // Changes the highest right of a contractor who is in standing.
-pub fn change_right(roll: Roll, contractor: u32, right: u32) -> Changed
-    ensures outcome_value { outcome_number result.outcome ≡ change_number roll contractor right }
-    ensures roll_value { result.roll ≡ changed_roll roll contractor right }
+#[tactic(auto, unfolding(refusal::specs::Tries::first, refusal::specs::Tries::answered, crate::specs::Changes::changed_roll))]
+pub fn change_right_on<R: AsRollMut>(
+    roll: &mut R,
+    contractor: u32,
+    right: u32,
+) -> Result<(), Reason>
+    ensures result_value { outcome_number result
+        ≡ first (with_whole (R.whole roll.old) (change_tries contractor right (count_of (R.roll roll.old) contractor))) }
+    ensures roll_after { OnOk result (R.roll roll.new ≡ changed_roll (R.roll roll.old) contractor right) }
+    ensures whole_after { R.whole roll.new ≡ R.whole roll.old }
+    ensures kept { OnErr result (roll.new ≡ roll.old) }
 {
-    let entry = entry_of(roll, contractor);
-    let outcome = try_change(Outcome::Done, contractor, right, entry.count);
-    if refusal::is_refused(outcome) {
-        return Changed { outcome, roll };
-    }
-    Changed {
-        outcome,
-        roll: with_entry(roll, contractor, changed_entry(right, entry)),
-    }
+    require(roll.is_whole(), Reason::InputLength)?;
+    let entry = roll.entry(contractor);
+    try_change(contractor, right, entry.count)?;
+    roll.set_entry(contractor, changed_entry(right, entry));
+    Ok(())
+}
+
+// The same on a roll by value.
+#[tactic(auto, unfolding(refusal::specs::Tries::first, refusal::specs::Tries::answered, crate::specs::Changes::entered_roll))]
+pub fn enter(mut roll: Roll, contractor: u32, right: u32) -> Result<Roll, Reason>
+    ensures result_value { outcome_number result ≡ enter_number roll contractor right }
+    ensures roll_value { result_unwrap_or result roll ≡ entered_roll roll contractor right }
+{
+    enter_on(&mut roll, contractor, right)?;
+    Ok(roll)
+}
+
+#[tactic(auto, unfolding(refusal::specs::Tries::first, refusal::specs::Tries::answered, crate::specs::Changes::withdrawn_roll))]
+pub fn withdraw(mut roll: Roll, contractor: u32) -> Result<Roll, Reason>
+    ensures result_value { outcome_number result ≡ withdraw_number roll contractor }
+    ensures roll_value { result_unwrap_or result roll ≡ withdrawn_roll roll contractor }
+{
+    withdraw_on(&mut roll, contractor)?;
+    Ok(roll)
+}
+
+#[tactic(auto, unfolding(refusal::specs::Tries::first, refusal::specs::Tries::answered, crate::specs::Changes::changed_roll))]
+pub fn change_right(mut roll: Roll, contractor: u32, right: u32) -> Result<Roll, Reason>
+    ensures result_value { outcome_number result ≡ change_number roll contractor right }
+    ensures roll_value { result_unwrap_or result roll ≡ changed_roll roll contractor right }
+{
+    change_right_on(&mut roll, contractor, right)?;
+    Ok(roll)
 }

@@ -3,7 +3,8 @@
 
 #![tactic(auto)]
 
-use holder::{Holder, HolderAnswer};
+use holder::Holder;
+use refusal::Reason;
 use std::io;
 
 // A call from two drawn bytes.
@@ -72,34 +73,35 @@ fn line(rt: &impl Print, call: u8, row: [u8; 41]) -> io::Result<()> {
 
 fn row_at(log: &[u8; 8200], i: usize) -> [u8; 41] {
     let mut row = [0u8; 41];
-    for j in 0..41 {
-        row[j] = log[i % 200 * 41 + j];
-    }
+    row.copy_from_slice(&log[i % 200 * 41..i % 200 * 41 + 41]);
     row
 }
 
 fn holder_line(rt: &impl Print, h: Holder) -> io::Result<()> {
-    let bytes = h.bytes;
     printing::decimal(rt, h.length as u64)?;
     printing::space(rt)?;
     printing::decimal(rt, h.number as u64)?;
     printing::space(rt)?;
-    printing::hex_bytes(rt, &bytes)?;
+    printing::hex_bytes(rt, &h.bytes)?;
     printing::newline(rt)
 }
 
-// The end of a route: the holder, and the stage straight from the key.
-fn ending(rt: &impl Print, r: HolderAnswer, key: &[u8]) -> io::Result<()> {
-    let h = r.holder;
+// The end of a route: the holder, and the stage straight from the key. No route here is refused.
+fn ending(rt: &impl Print, end: Result<Holder, Reason>, key: &[u8]) -> io::Result<()> {
+    let h = end.unwrap_or_default();
     printing::word(rt, b"holder ")?;
     holder_line(rt, h)?;
-    let s = holder_from_key::straight(key, h.number);
-    let outcome = s.outcome;
-    let given = s.holder;
     printing::word(rt, b"straight ")?;
-    printing::decimal(rt, refusal::outcome_number(outcome) as u64)?;
-    printing::space(rt)?;
-    holder_line(rt, given)
+    match holder_from_key::straight(key, h.number) {
+        Ok(given) => {
+            printing::word(rt, b"0 ")?;
+            holder_line(rt, given)
+        }
+        Err(reason) => {
+            printing::decimal(rt, u32::from(reason) as u64)?;
+            printing::newline(rt)
+        }
+    }
 }
 
 // The lines of 200 calls.

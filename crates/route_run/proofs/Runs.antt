@@ -1,7 +1,7 @@
 -- The run of a list of calls: the rows written so far, one more row, and what the run answers.
 use mathlib.Core.Path.{◌≡◌, refl, sym, ap, ap₂, ◌∙◌}
 use mathlib.Core.Logic.{inl, inr}
-use mathlib.Core.Bool.{Bool, true, false}
+use mathlib.Core.Bool.{true}
 use mathlib.Core.List.{List, [], ◌∷◌, ◌++◌, append_assoc, append-nil}
 use Prim.Native.Nat.{ℕ, suc, ◌+◌, ◌-◌, ◌*◌, ◌≤◌, ◌<◌}
 use native.Mathlib.Omega.{arith}
@@ -175,10 +175,6 @@ module _ (key : List ℕ) (bytes : AreBytes key) (right : key_length (length key
           (ap (λ (m : ℕ). 41 * i + m) (row-bytes c (place_of key calls i)) ∙ n)
 
 -- ---- what the run answers
-not_made : (key : List ℕ) (b : Bool) → key_length (length key) ≡ b → (make_number key ≡ 0 → ⊥) → b ≡ false
-not_made key true e n = let z : make_number key ≡ 0 = first_passes _ [] e ∙ none-given [] tt in absurd (n z)
-not_made key false e n = refl
-
 pub made-right : (key : List ℕ) → make_number key ≡ 0 → key_length (length key) ≡ true
 made-right key e = (none-holds (make_tries key) (lit< tt, tt) e).0
 
@@ -187,17 +183,6 @@ unfolding made_holder
 made_at key right = sym (answer-done (make_tries key) (holder_at key 0) blank (first_passes _ [] right ∙ none-given [] tt))
 
 module _ (key calls log : List ℕ) where
-  pub run_not_made : (make_number key ≡ 0 → ⊥)
-      → (make_number key ≡ run_number key calls log) × ((made_holder key ≡ run_holder key calls log) × (log ≡ run_log key calls log))
-  unfolding run_holder run_log
-  run_not_made n =
-      let k = not_made key (key_length (length key)) refl n in
-      let e = first_holds _ _ k in
-      let tries = run_tries key calls log in (
-        first_holds _ [] k ∙ sym e,
-        (answer-refused tries 1 _ (made_holder key) (omega arith) e, (refuses tries 1 (rows_from key (calls_of calls) 0) log (omega arith) e).1),
-      )
-
   pub run_no_room : key_length (length key) ≡ true → length log < 41 * length calls
       → (4 ≡ run_number key calls log) × ((made_holder key ≡ run_holder key calls log) × (log ≡ run_log key calls log))
   unfolding run_holder run_log

@@ -1,5 +1,7 @@
 -- Lists of calls on a key holder and their answers, in bytes.
-use Rattle.std.specs.Prelude.{cond, List, [], ◌∷◌, ◌++◌, ℕ, ◌*◌, ◌%◌, eqb, leb, length}
+use Rattle.std.specs.Prelude.{cond, List, [], ◌∷◌, ◌++◌, ℕ, ◌*◌, ◌%◌, eqb, leb, length, Result, Ok, Err}
+use Rattle.refusal.specs.declared.Reason.{Reason}
+use Rattle.refusal.specs.Reasons.{reason_number}
 use Rattle.refusal.specs.Tries.{Try, ◌unless◌, first, answered, written}
 use Rattle.sizes.specs.Sizes.{key_length, t_of}
 use Rattle.holder.specs.declared.Holder.{Holder}
@@ -24,6 +26,11 @@ unfoldable pub logged_of : Answer → Holder → Logged
 logged_of (held n h) left = record { number = n; steps = 0; way = Forward; subkey = no_subkey; holder = left }
 logged_of (reported n h steps way) left = record { number = n; steps = steps; way = way; subkey = no_subkey; holder = left }
 logged_of (given n k) left = record { number = n; steps = 0; way = Forward; subkey = k; holder = left }
+
+-- what is logged of a call on a holder that answers with a row or is refused
+abbrev pub row_or : Holder → Result Logged Reason → Logged
+row_or h (Ok r) = r
+row_or h (Err e) = record { number = reason_number e; steps = 0; way = Forward; subkey = no_subkey; holder = h }
 
 abbrev pub way_number : Way → ℕ
 way_number Forward = 0

@@ -1,14 +1,14 @@
--- The laws of the S-box: its own inverse and bound, by one computed test over the 256 bytes; and the regrouping by shifts and masks.
+-- The laws of the S-box: its own inverse and bound, by one computed test over the 256 bytes; and the regrouping of the top bits.
 use mathlib.Core.Path.{◌≡◌}
 use mathlib.Core.Bool.{Bool, ◌&&◌}
-use Prim.Native.Nat.{ℕ, ◌*◌, ◌/◌, ◌%◌, ◌<◌}
+use Prim.Native.Nat.{ℕ, ◌/◌, ◌%◌, ◌<◌}
 use native.Mathlib.Omega.{arith}
 use lib.Dec.{T, eqb, eqb→eq, ltb, ltb→lt, lit<}
 use lib.Bits.{bit_and, bit_or}
 use Rattle.field.proofs.Computed.{and_left, and_right, all, passed, entry-below}
 use lib.ListN.{get_or}
 use Rattle.sbox.specs.Published.{published}
-use Rattle.sbox.specs.Sbox.{table_p, table_q, mini_p, mini_q, join_tops, join_lows, join_halves, sbox}
+use Rattle.sbox.specs.Sbox.{table_p, table_q, mini_p, mini_q, join_tops, join_lows, sbox}
 
 -- ---- the tables' entries have four bits
 pub p_small : (x : ℕ) → mini_p x < 16
@@ -60,9 +60,3 @@ module _ (f g : ℕ → ℕ → ℕ) where
 
 pub tops_is : (h l : ℕ) → h < 16 → l < 16 → bit_or (bit_and h 12) (l / 4) ≡ join_tops h l
 tops_is = halves (λ h l. bit_or (bit_and h 12) (l / 4)) join_tops tt
-
-pub lows_is : (h l : ℕ) → h < 16 → l < 16 → bit_or (bit_and h 3 * 4 % 18446744073709551616) (bit_and l 3) ≡ join_lows h l
-lows_is = halves (λ h l. bit_or (bit_and h 3 * 4 % 18446744073709551616) (bit_and l 3)) join_lows tt
-
-pub halves_is : (h l : ℕ) → h < 16 → l < 16 → bit_or (h * 16 % 18446744073709551616) l ≡ join_halves h l
-halves_is = halves (λ h l. bit_or (h * 16 % 18446744073709551616) l) join_halves tt

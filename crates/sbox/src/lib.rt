@@ -6,26 +6,29 @@ ghost use Rattle.std.specs.Prelude.{◌≡◌, ◌%◌, ◌<◌};
 ghost use Rattle.sbox.specs.Sbox.{table_p, table_q, mini_p, mini_q, join_tops, join_lows, join_halves, sbox};
 ghost use Rattle.sbox.specs.ForProver.{IsNibble};
 
-// The mini-boxes. A table that is indexed is laid in memory where it is bound, so callers bind both once and lend them.
+// The mini-boxes. They lie in memory once, in the program, and no call copies them.
 pub const P: [u8; 16] = [3, 15, 14, 0, 5, 4, 11, 12, 13, 10, 9, 6, 7, 8, 2, 1];
 
 pub const Q: [u8; 16] = [9, 14, 5, 6, 10, 2, 3, 12, 15, 0, 4, 13, 7, 11, 1, 8];
 
-fn mini_p(p: &[u8; 16], x: usize) -> usize
-    requires { (p.now ≡ table_p) × (x < 16) }
+#[tactic(auto, using(crate::proofs::Laws::p_small), unfolding(crate::specs::Sbox::table_p))]
+fn mini_p(x: usize) -> usize
+    requires { x < 16 }
     ensures { IsNibble result (mini_p x) }
 {
-    p[x] as usize
+    P[x] as usize
 }
 
-fn mini_q(q: &[u8; 16], x: usize) -> usize
-    requires { (q.now ≡ table_q) × (x < 16) }
+#[tactic(auto, using(crate::proofs::Laws::q_small), unfolding(crate::specs::Sbox::table_q))]
+fn mini_q(x: usize) -> usize
+    requires { x < 16 }
     ensures { IsNibble result (mini_q x) }
 {
-    q[x] as usize
+    Q[x] as usize
 }
 
 // The top two bits of h joined to the top two of l.
+#[tactic(auto, using(crate::proofs::Laws::tops_is))]
 fn join_tops(h: usize, l: usize) -> usize
     requires { (h < 16) × (l < 16) }
     ensures { IsNibble result (join_tops h l) }
@@ -55,25 +58,16 @@ fn low_half(x: u8) -> usize
     (x & 15) as usize
 }
 
-// The S-box of a byte, from the two tables lent.
-pub fn substitute_with(p: &[u8; 16], q: &[u8; 16], x: u8) -> u8
-    requires { (p.now ≡ table_p) × (q.now ≡ table_q) }
-    ensures { result ≡ sbox x }
-{
-    let h1 = mini_p(p, (x >> 4) as usize);
-    let l1 = mini_q(q, low_half(x));
-    let h2 = mini_q(q, join_tops(h1, l1));
-    let l2 = mini_p(p, join_lows(h1, l1));
-    let h3 = mini_p(p, join_tops(h2, l2));
-    let l3 = mini_q(q, join_lows(h2, l2));
-    join_halves(h3, l3)
-}
-
 // The S-box of a byte.
+#[tactic(auto, unfolding(crate::specs::Sbox::sbox))]
 pub fn substitute_byte(x: u8) -> u8
     ensures { result ≡ sbox x }
 {
-    let p = P;
-    let q = Q;
-    substitute_with(&p, &q, x)
+    let h1 = mini_p((x >> 4) as usize);
+    let l1 = mini_q(low_half(x));
+    let h2 = mini_q(join_tops(h1, l1));
+    let l2 = mini_p(join_lows(h1, l1));
+    let h3 = mini_p(join_tops(h2, l2));
+    let l3 = mini_q(join_lows(h2, l2));
+    join_halves(h3, l3)
 }

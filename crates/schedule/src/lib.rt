@@ -10,7 +10,7 @@ ghost use Rattle.sizes.specs.Sizes.{Sized};
 
 // The stage after step s, in the place of the stage before it.
 pub fn next_stage(t: usize, s: usize, k: &mut [u8; 24])
-    requires { Sized t × (length k.old ≡ 24) }
+    requires { Sized t }
     ensures { k.new ≡ stage_after t s k.old ++ drop (6 * t) k.old }
 {
     constants::add_constant(t, s, k);
@@ -23,10 +23,6 @@ pub fn stage_of_key(key: &[u8]) -> [u8; 24]
     ensures { result ≡ padded key.now }
 {
     let mut stage = [0u8; 24];
-    let mut i: usize = 0;
-    while i < key.len() {
-        stage[i] = key[i];
-        i += 1;
-    }
+    stage[..key.len()].copy_from_slice(key);
     stage
 }

@@ -9,7 +9,7 @@ ghost use Rattle.pages.specs.Pages.{cleared};
 ghost use Rattle.sealing.specs.Sealing.{seal_tries, seal_number, sealed, seal_output, seal_scratch};
 ghost use Rattle.sealing.specs.ForProver.{Sealable};
 
-use refusal::{Outcome, Reason, unless};
+use refusal::{Reason, require};
 
 // The page made in the output, over lists in the scratch, which is cleared.
 fn seal_in(
@@ -35,6 +35,7 @@ fn seal_in(
 }
 
 // The settings, the room, the size block, and the payload.
+#[tactic(auto, using(crate::proofs::Tried::pair_refused), unfolding(refusal::specs::Tries::first))]
 fn try_seal(
     first_key: &[u8],
     second_key: &[u8],
@@ -43,23 +44,25 @@ fn try_seal(
     payload: &[u8],
     scratch: &[u8],
     out: &[u8],
-) -> Outcome
+) -> Result<(), Reason>
     ensures { outcome_number result
         ≡ first (seal_tries first_key.now second_key.now rounds size_block payload.now
         scratch.now out.now) }
 {
-    let settings = key_pairs::try_pair(first_key, second_key, rounds);
-    let room = basics::both(576 <= scratch.len(), 512 <= out.len());
-    let fits = unless(settings, Reason::OutputTooShort, room);
-    let some = unless(
-        fits,
-        Reason::BlockZero,
-        size_blocks::is_size_block(size_block),
-    );
-    unless(some, Reason::PayloadTooLong, payload.len() <= 492)
+    key_pairs::try_pair(first_key, second_key, rounds)?;
+    let room = 576 <= scratch.len() && 512 <= out.len();
+    require(room, Reason::OutputTooShort)?;
+    let some = size_blocks::is_size_block(size_block);
+    require(some, Reason::BlockZero)?;
+    require(payload.len() <= 492, Reason::PayloadTooLong)
 }
 
 // Seals a page: 512 bytes to the output.
+#[tactic(auto,
+// The lengths, and what was tried.
+using(pages::proofs::Lengths::length_cleared, crate::proofs::Tried::length_sealed, crate::proofs::Tried::sealable),
+// The words of the clauses.
+unfolding(refusal::specs::Tries::first, refusal::specs::Tries::written, crate::specs::Sealing::seal_output, crate::specs::Sealing::seal_scratch))]
 pub fn seal(
     first_key: &[u8],
     second_key: &[u8],
@@ -69,7 +72,7 @@ pub fn seal(
     payload: &[u8],
     scratch: &mut [u8],
     out: &mut [u8],
-) -> Outcome
+) -> Result<(), Reason>
     ensures result_value { outcome_number result
         ≡ seal_number first_key.now second_key.now rounds size_block payload.now
         scratch.old out.old }
@@ -80,12 +83,9 @@ pub fn seal(
         ≡ seal_scratch first_key.now second_key.now rounds size_block payload.now
         scratch.old out.old }
 {
-    let tried = try_seal(
+    try_seal(
         first_key, second_key, rounds, size_block, payload, scratch, out,
-    );
-    if refusal::is_refused(tried) {
-        return tried;
-    }
+    )?;
     seal_in(
         first_key,
         second_key,
@@ -96,5 +96,5 @@ pub fn seal(
         &mut scratch[..576],
         &mut out[..512],
     );
-    Outcome::Done
+    Ok(())
 }

@@ -7,12 +7,13 @@ ghost use Rattle.refusal.specs.Reasons.{outcome_number};
 ghost use Rattle.refusal.specs.Tries.{first};
 ghost use Rattle.settings.specs.Settings.{settings_tries};
 
-use refusal::{Outcome, Reason, unless};
+use refusal::{Reason, require};
 
 // A key of n bytes, then the round count.
-pub fn try_settings(n: usize, rounds: u32) -> Outcome
+#[tactic(auto, unfolding(refusal::specs::Tries::first))]
+pub fn try_settings(n: usize, rounds: u32) -> Result<(), Reason>
     ensures { outcome_number result ≡ first (settings_tries n rounds) }
 {
-    let key = unless(Outcome::Done, Reason::KeyLength, sizes::is_key_length(n));
-    unless(key, Reason::RoundCount, sizes::is_round_count(n, rounds))
+    require(sizes::is_key_length(n), Reason::KeyLength)?;
+    require(sizes::is_round_count(n, rounds), Reason::RoundCount)
 }

@@ -2,34 +2,39 @@
 
 #![tactic(auto)]
 
-ghost use Rattle.std.specs.Prelude.{◌≡◌, true};
-ghost use Rattle.sizes.specs.Sizes.{turn, key_length, size_for, t_of, rounds_allowed, Sized};
-
-use basics::either;
+ghost use Rattle.std.specs.Prelude.{◌≡◌, ℕ, ◌*◌, true, refl};
+ghost use Rattle.sizes.specs.Sizes.{turn, least_rounds, most_rounds, key_length, size_for, t_of, rounds_allowed, Sized};
 
 // A row of the table of key sizes.
-#[derive(Drop)]
+#[derive(Clone, Copy, Debug, PartialEq, Eq)]
 pub struct KeySize {
     pub turn: usize,
     pub least: usize,
     pub most: usize,
 }
 
-// Keys of 96 bits: t = 2.
-#[derive(Drop)]
-pub struct Key96 {}
+// A key size, by its t: keys of 6t bytes, and a row of the table.
+pub trait Size {
+    const KEY_BYTES: usize;
 
-impl Key96 {
-    pub const KEY_BYTES: usize = 12;
+    const TURN: usize;
 
-    pub const TURN: usize = 12;
+    const LEAST_ROUNDS: usize;
 
-    pub const LEAST_ROUNDS: usize = 10;
+    const MOST_ROUNDS: usize;
 
-    pub const MOST_ROUNDS: usize = 11;
+    ghost t: { ℕ };
 
-    pub fn size() -> KeySize
-        ensures { result ≡ size_for 2 }
+    ghost KEY_BYTES: { ℕ };
+
+    ghost TURN: { ℕ };
+
+    ghost LEAST_ROUNDS: { ℕ };
+
+    ghost MOST_ROUNDS: { ℕ };
+
+    fn size() -> KeySize
+        ensures { result ≡ size_for t }
     {
         KeySize {
             turn: Self::TURN,
@@ -37,63 +42,101 @@ impl Key96 {
             most: Self::MOST_ROUNDS,
         }
     }
+
+    // What each size must prove: its constants are the table's at its t.
+    ghost length_is: { KEY_BYTES ≡ 6 * t };
+
+    ghost row_is: { size_for t ≡ record { turn = TURN; least = LEAST_ROUNDS; most = MOST_ROUNDS } };
+}
+
+// Keys of 96 bits: t = 2.
+#[derive(Clone, Copy, Debug, PartialEq, Eq)]
+pub struct Key96 {}
+
+impl Size for Key96 {
+    const KEY_BYTES: usize = 12;
+
+    const TURN: usize = 12;
+
+    const LEAST_ROUNDS: usize = 10;
+
+    const MOST_ROUNDS: usize = 11;
+
+    ghost t = { 2 };
+
+    ghost KEY_BYTES = { 6 * 2 };
+
+    ghost TURN = { turn 2 };
+
+    ghost LEAST_ROUNDS = { least_rounds 2 };
+
+    ghost MOST_ROUNDS = { most_rounds 2 };
+
+    ghost length_is = { refl };
+
+    ghost row_is = { refl };
 }
 
 // Keys of 144 bits: t = 3.
-#[derive(Drop)]
+#[derive(Clone, Copy, Debug, PartialEq, Eq)]
 pub struct Key144 {}
 
-impl Key144 {
-    pub const KEY_BYTES: usize = 18;
+impl Size for Key144 {
+    const KEY_BYTES: usize = 18;
 
-    pub const TURN: usize = 18;
+    const TURN: usize = 18;
 
-    pub const LEAST_ROUNDS: usize = 14;
+    const LEAST_ROUNDS: usize = 14;
 
-    pub const MOST_ROUNDS: usize = 17;
+    const MOST_ROUNDS: usize = 17;
 
-    pub fn size() -> KeySize
-        ensures { result ≡ size_for 3 }
-    {
-        KeySize {
-            turn: Self::TURN,
-            least: Self::LEAST_ROUNDS,
-            most: Self::MOST_ROUNDS,
-        }
-    }
+    ghost t = { 3 };
+
+    ghost KEY_BYTES = { 6 * 3 };
+
+    ghost TURN = { turn 3 };
+
+    ghost LEAST_ROUNDS = { least_rounds 3 };
+
+    ghost MOST_ROUNDS = { most_rounds 3 };
+
+    ghost length_is = { refl };
+
+    ghost row_is = { refl };
 }
 
 // Keys of 192 bits: t = 4.
-#[derive(Drop)]
+#[derive(Clone, Copy, Debug, PartialEq, Eq)]
 pub struct Key192 {}
 
-impl Key192 {
-    pub const KEY_BYTES: usize = 24;
+impl Size for Key192 {
+    const KEY_BYTES: usize = 24;
 
-    pub const TURN: usize = 24;
+    const TURN: usize = 24;
 
-    pub const LEAST_ROUNDS: usize = 18;
+    const LEAST_ROUNDS: usize = 18;
 
-    pub const MOST_ROUNDS: usize = 23;
+    const MOST_ROUNDS: usize = 23;
 
-    pub fn size() -> KeySize
-        ensures { result ≡ size_for 4 }
-    {
-        KeySize {
-            turn: Self::TURN,
-            least: Self::LEAST_ROUNDS,
-            most: Self::MOST_ROUNDS,
-        }
-    }
+    ghost t = { 4 };
+
+    ghost KEY_BYTES = { 6 * 4 };
+
+    ghost TURN = { turn 4 };
+
+    ghost LEAST_ROUNDS = { least_rounds 4 };
+
+    ghost MOST_ROUNDS = { most_rounds 4 };
+
+    ghost length_is = { refl };
+
+    ghost row_is = { refl };
 }
 
 pub fn is_key_length(n: usize) -> bool
     ensures { result ≡ key_length n }
 {
-    either(
-        n == Key96::KEY_BYTES,
-        either(n == Key144::KEY_BYTES, n == Key192::KEY_BYTES),
-    )
+    n == Key96::KEY_BYTES || n == Key144::KEY_BYTES || n == Key192::KEY_BYTES
 }
 
 // The table's row for t.
@@ -101,13 +144,11 @@ pub fn size_for(t: usize) -> KeySize
     requires { Sized t }
     ensures { result ≡ size_for t }
 {
-    if t == 2 {
-        return Key96::size();
+    match t {
+        2 => Key96::size(),
+        3 => Key144::size(),
+        _ => Key192::size(),
     }
-    if t == 3 {
-        return Key144::size();
-    }
-    Key192::size()
 }
 
 // The table's row for a key of n bytes.
@@ -123,8 +164,7 @@ pub fn turn_for(t: usize) -> usize
     requires { Sized t }
     ensures { result ≡ turn t }
 {
-    let size = size_for(t);
-    size.turn
+    size_for(t).turn
 }
 
 // The number of stages in a turn, for a key of n bytes: six for each of its t.
@@ -138,15 +178,9 @@ pub fn turn_of_key(n: usize) -> usize
 pub fn is_round_count(n: usize, rounds: u32) -> bool
     ensures { result ≡ rounds_allowed n rounds }
 {
-    if !is_key_length(n) {
-        return false;
-    }
-    let size = size_of_key(n);
-    let least = size.least;
-    let most = size.most;
-    let count = rounds as usize;
-    if count < least {
-        return false;
-    }
-    count <= most
+    is_key_length(n)
+        && {
+            let size = size_of_key(n);
+            (size.least..=size.most).contains(&(rounds as usize))
+        }
 }

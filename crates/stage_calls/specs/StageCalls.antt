@@ -8,8 +8,11 @@ use Rattle.stages.specs.Stages.{stage, subkey_of}
 use Rattle.holder_from_key.specs.FromKey.{straight_tries}
 
 -- the order of the stage straight from the key, 1 and 5, and then the room: 4
+abbrev pub stage_room_tries : ℕ → List ℕ → ℕ → ℕ → List Try
+stage_room_tries least key n room = straight_tries (length key) n ++ ((4 unless leb least room) ∷ [])
+
 abbrev pub stage_call_tries : ℕ → List ℕ → ℕ → List ℕ → List Try
-stage_call_tries room key n out = straight_tries (length key) n ++ ((4 unless leb room (length out)) ∷ [])
+stage_call_tries least key n out = stage_room_tries least key n (length out)
 
 abbrev pub stage_call_number : ℕ → List ℕ → ℕ → List ℕ → ℕ
 stage_call_number room key n out = first (stage_call_tries room key n out)

@@ -4,7 +4,7 @@ use mathlib.Core.List.{List, [], ◌∷◌, ◌++◌}
 use Prim.Native.Nat.{ℕ, ◌+◌, ◌-◌, ◌*◌, ◌≤◌, ◌<◌}
 use native.Mathlib.Omega.{arith}
 use lib.ListN.{length, drop, replicate, length-append, length-replicate, get_or-append}
-use lib.Seq.{drop_at, length_front, length-take-le}
+use lib.Seq.{drop_at}
 use lib.Dec.{lit<}
 use lib.Bits.{bit_xor}
 use Rattle.field.specs.Field.{◌⊕◌, cube_root}
@@ -28,13 +28,6 @@ length_step n k = length-columns _ 0 n
 pub length-padded : (k : List ℕ) → length k ≤ 24 → length (padded k) ≡ 24
 unfolding padded
 length-padded k h = omega (arith, length-append k (replicate (24 - length k) 0), length-replicate {A = ℕ} (24 - length k) 0)
-
-length_kept : (m : ℕ) (x k : List ℕ) → length x ≡ m → m ≤ length k → length (x ++ drop m k) ≡ length k
-length_kept m x k e h = length_front k x m (e ∙ sym (length-take-le m k h))
-
--- a stage of 2t columns put in the place of another in 24 bytes
-pub length-held : (t : ℕ) (x k : List ℕ) → t ≤ 4 → length x ≡ 3 * (2 * t) → length k ≡ 24 → length (x ++ drop (6 * t) k) ≡ 24
-length-held t x k m e l = length_kept (6 * t) x k (omega arith) (omega arith) ∙ l
 
 -- two stages that agree at every cell of n columns
 abbrev pub Agree : ℕ → List ℕ → List ℕ → Type 0

@@ -6,12 +6,12 @@ use Prim.Native.Nat.{ℕ, suc, ◌+◌, ◌-◌, ◌*◌, ◌≤◌, ◌<◌}
 use native.Mathlib.Nat.{zero-add, suc-add}
 use native.Mathlib.Omega.{arith}
 use native.Mathlib.Numerals.{add-one}
-use lib.ListN.{length, get_or, take, drop, set, replicate}
+use lib.ListN.{length, get_or, drop, set}
 use lib.Dec.{ltb}
-use lib.Seq.{length-take-le, take-suc, set_at, drop-cons, get_or-append-add, get_or-drop}
+use lib.Seq.{set_at, drop-cons, get_or-append-add, get_or-drop}
 use borrow.Author.Tests.{ltb-true, ltb-false}
 use Rattle.field.specs.Field.{◌⊕◌, times, cube_root}
-use Rattle.stages.specs.Columns.{cell, fill, padded, rule_byte}
+use Rattle.stages.specs.Columns.{cell, fill, rule_byte}
 use Rattle.stages.specs.Stages.{next, previous, by_row, moved, linear_step}
 use Rattle.stages.proofs.Columns.{length-columns, fill_last}
 use Rattle.stages.proofs.Places.{next_on, next_around}
@@ -117,25 +117,3 @@ module _ (n : ℕ) (k out : List ℕ) (j : ℕ) (h : j < n) (e : out ≡ upto (s
       → a ≡ times cube_root (x ⊕ (y ⊕ z)) → put_column out j (x ⊕ a) (y ⊕ a) (z ⊕ a) ≡ upto (stepped n k) (j + 1) k
   column-stepped x y z a l ex ey ez ea =
       column_put (stepped n k) j k out l e (x ⊕ a) (y ⊕ a) (z ⊕ a) (cc (ex, ey, ez, ea)) (cc (ex, ey, ez, ea)) (cc (ex, ey, ez, ea))
-
--- ---- a stage written byte after byte
-pub padded-next : (k : List ℕ) (i : ℕ) → i < length k → length k ≤ 24 → set (padded (take i k)) i (get_or k i 0) ≡ padded (take (i + 1) k)
-unfolding padded
-padded-next k i h l =
-    ap (λ (m : ℕ). set (take i k ++ replicate m 0) i (get_or k i 0)) e
-    ∙ set_at (take i k) 0 (replicate (24 - (i + 1)) 0) (get_or k i 0) i short
-    ∙ sym (append_assoc (take i k) (get_or k i 0 ∷ []) (replicate (24 - (i + 1)) 0))
-    ∙ ap (λ (p : List ℕ). p ++ replicate (24 - (i + 1)) 0) (sym more)
-    ∙ ap (λ (m : ℕ). take (i + 1) k ++ replicate (24 - m) 0) (sym long)
-  where
-    short : length (take i k) ≡ i
-    short = length-take-le i k (omega arith)
-
-    long : length (take (i + 1) k) ≡ i + 1
-    long = length-take-le (i + 1) k (omega arith)
-
-    more : take (i + 1) k ≡ take i k ++ (get_or k i 0 ∷ [])
-    more = ap (λ (m : ℕ). take m k) (add-one i) ∙ take-suc k i 0 h
-
-    e : 24 - length (take i k) ≡ suc (24 - (i + 1))
-    e = omega (arith, short)

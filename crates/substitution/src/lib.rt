@@ -3,31 +3,30 @@
 #![tactic(auto)]
 
 ghost use Rattle.std.specs.Prelude.{◌≡◌, get_or};
-ghost use Rattle.sbox.specs.Sbox.{table_p, table_q, sbox};
+ghost use Rattle.sbox.specs.Sbox.{sbox};
 ghost use Rattle.layers.specs.State.{column};
 ghost use Rattle.layers.specs.Layers.{substituted};
 
-fn substitute_column(p: &[u8; 16], q: &[u8; 16], a: [u8; 3]) -> [u8; 3]
-    requires { (p.now ≡ table_p) × (q.now ≡ table_q) }
+use sbox::substitute_byte;
+
+fn substitute_column(a: [u8; 3]) -> [u8; 3]
     ensures { result ≡ column (λ i. sbox (get_or a i 0)) }
 {
     [
-        sbox::substitute_with(p, q, a[0]),
-        sbox::substitute_with(p, q, a[1]),
-        sbox::substitute_with(p, q, a[2]),
+        substitute_byte(a[0]),
+        substitute_byte(a[1]),
+        substitute_byte(a[2]),
     ]
 }
 
-// The S-box on every byte. The mini-boxes are laid in memory once for all twelve.
+// The S-box on every byte.
 pub fn substitute(a: [[u8; 3]; 4]) -> [[u8; 3]; 4]
     ensures { result ≡ substituted a }
 {
-    let p = sbox::P;
-    let q = sbox::Q;
     [
-        substitute_column(&p, &q, a[0]),
-        substitute_column(&p, &q, a[1]),
-        substitute_column(&p, &q, a[2]),
-        substitute_column(&p, &q, a[3]),
+        substitute_column(a[0]),
+        substitute_column(a[1]),
+        substitute_column(a[2]),
+        substitute_column(a[3]),
     ]
 }

@@ -8,7 +8,7 @@ use native.Mathlib.Omega.{arith}
 use native.Mathlib.Numerals.{add-one}
 use lib.ListN.{length, get_or, take, drop, drop_of_length-le}
 use lib.Seq.{drop-cons, drop-drop, drop-append-le}
-use Rattle.basics.proofs.Tests.{and_turned}
+use Rattle.std.proofs.Math.Bool.{and_assoc}
 use Rattle.layers.specs.State.{State}
 use Rattle.layers.specs.Layers.{added}
 use Rattle.block_bytes.specs.Blocks.{state_of, bytes_of, list_states, list_bytes}
@@ -41,21 +41,21 @@ module _ (g : State → State) (bytes : List ℕ) (i : ℕ) (previous : State) w
   -- the test of one more block: what was tested so far, and the rest
   pub zero_on : (skip : ℕ) (so_far : Bool) (block : State) (rest : List ℕ) (test : Bool) → skip ≤ 12 → list_bytes left ≡ bytes_of block ++ rest
       → test ≡ all_zero (drop skip (bytes_of block))
-      → (so_far && all_zero (drop skip (list_bytes left))) ≡ ((test && so_far) && all_zero rest)
+      → (so_far && all_zero (drop skip (list_bytes left))) ≡ ((so_far && test) && all_zero rest)
   zero_on skip so_far block rest test h e et =
       let b = bytes_of block in
       ap (λ (l : List ℕ). so_far && all_zero (drop skip l)) e
       ∙ ap (λ (l : List ℕ). so_far && all_zero l) (drop-append-le skip b rest h)
       ∙ ap (λ (z : Bool). so_far && z) (zeros_both (drop skip b) rest)
-      ∙ and_turned so_far (all_zero (drop skip b)) (all_zero rest)
-      ∙ ap (λ (z : Bool). (z && so_far) && all_zero rest) (sym et)
+      ∙ sym (and_assoc so_far (all_zero (drop skip b)) (all_zero rest))
+      ∙ ap (λ (z : Bool). (so_far && z) && all_zero rest) (sym et)
 
 -- ---- the blocks before a place left out
-pub before-read : (start : State) (bytes : List ℕ) (i : ℕ) → (i ≡ 0 → ⊥) → 12 * i ≤ length bytes
+pub before_read : (start : State) (bytes : List ℕ) (i : ℕ) → (i ≡ 0 → ⊥) → 12 * i ≤ length bytes
     → state_of (take (12 * (i - 1) + 12 - 12 * (i - 1)) (drop (12 * (i - 1)) bytes)) ≡ block_before start (list_states bytes) i
 unfolding block_before
-before-read start bytes zero h l = absurd (h refl)
-before-read start bytes (suc m) h l =
+before_read start bytes zero h l = absurd (h refl)
+before_read start bytes (suc m) h l =
     let e : suc m - 1 ≡ m = omega arith in
     ap (λ (k : ℕ). state_of (take (12 * k + 12 - 12 * k) (drop (12 * k) bytes))) e ∙ block_read bytes (drop (12 * m) bytes) m (omega arith) refl
 

@@ -27,18 +27,17 @@ pub fn unchain(list: &[u8], start: [[u8; 3]; 4], bytes: &[u8], out: &mut [u8])
         ≡ unchained_bytes (enciphered (list_states list.now)) start bytes.now ++ drop (length bytes.now) out.old }
 {
     let mut previous = start;
-    let mut i: usize = 0;
-    while i < bytes.len() / 12 {
+    for i in 0..bytes.len() / 12 {
         let at = 12 * i;
         let block = blocks::state_of(&bytes[at..at + 12]);
         let plain = plain_block(list, previous, block);
         blocks::write_state(&mut out[at..], plain);
         previous = block;
-        i += 1;
     }
 }
 
 // The enciphered block before block i; before the first, the start.
+#[tactic(auto, using(crate::proofs::Steps::before_read), unfolding(crate::specs::ForProver::block_before))]
 fn block_before(start: [[u8; 3]; 4], bytes: &[u8], i: usize) -> [[u8; 3]; 4]
     requires { 12 * i ≤ length bytes.now }
     ensures { result ≡ block_before start (list_states bytes.now) i }
@@ -65,18 +64,15 @@ pub fn is_zero_from(list: &[u8], start: [[u8; 3]; 4], bytes: &[u8], n: usize) ->
     ensures { result ≡ all_zero (drop n (unchained_bytes (enciphered (list_states list.now)) start bytes.now)) }
 {
     let mut zero = true;
-    let mut i = n / 12;
     let mut skip = n % 12;
-    let mut previous = block_before(start, bytes, i);
-    while i < bytes.len() / 12 {
+    let mut previous = block_before(start, bytes, n / 12);
+    for i in n / 12..bytes.len() / 12 {
         let at = 12 * i;
         let block = blocks::state_of(&bytes[at..at + 12]);
         let plain = plain_block(list, previous, block);
-        let so_far = basics::both(zero_from(plain, skip), zero);
-        zero = so_far;
+        zero &= zero_from(plain, skip);
         previous = block;
         skip = 0;
-        i += 1;
     }
     zero
 }

@@ -1,5 +1,5 @@
 -- From what the calls' contracts say to what the functions of this crate promise.
-use mathlib.Core.Path.{◌≡◌, refl, sym, ap, ◌∙◌}
+use mathlib.Core.Path.{◌≡◌, refl, sym, ap, ◌∙◌, subst}
 use mathlib.Core.Bool.{Bool, true, false}
 use mathlib.Core.List.{List, [], ◌∷◌}
 use Prim.Native.Nat.{ℕ, ◌≤◌, ◌<◌}
@@ -17,10 +17,9 @@ use Rattle.refusal.proofs.Answers.{starts, answer-refused, answer-done}
 use Rattle.basics.specs.Bytes.{AreBytes}
 use Rattle.cipher.specs.Cipher.{cipher_block}
 use Rattle.roll.specs.declared.Roll.{Roll}
-use Rattle.grant.specs.declared.Verdict.{Verdict}
-use Rattle.grant.specs.declared.Verdict.TheVariants.{Opens, Refused}
+use Rattle.std.specs.Prelude.{Ok, Err}
 use Rattle.rights.specs.Rights.{is_right, covers}
-use Rattle.grant.specs.Grants.{contractor_in, verdict_number, verdict_contractor, verdict_right}
+use Rattle.grant.specs.Grants.{Verdict, contractor_in, verdict_number, verdict_contractor, verdict_right}
 use Rattle.judging.proofs.Verdicts.{Tells, verdict_refused, verdict_passed}
 use Rattle.issuing.specs.Issuing.{issue_tries, issue_number, issued_grant, issue_output}
 use Rattle.checking.specs.Checking.{opened_grant, check_tries, check_number, check_contractor, check_right}
@@ -31,8 +30,8 @@ use Rattle.verdicts.specs.Decisions.{OpensFor, Decides, covered_tries, issued_tr
 
 -- a verdict by its three numbers
 opens_for : (v : Verdict) (c r : ℕ) → verdict_number v ≡ 0 → verdict_contractor v ≡ c → verdict_right v ≡ r → OpensFor v c r
-opens_for (Opens g) c r n ec er = record { grant = g; is = refl; names-contractor = ec; names-right = er }
-opens_for (Refused x) c r n ec er = let z : ⊥ = omega (arith, reason_positive x, n) in absurd z
+opens_for (Ok g) c r n ec er = record { grant = g; is = refl; names-contractor = ec; names-right = er }
+opens_for (Err x) c r n ec er = let z : ⊥ = omega (arith, reason_positive x, n) in absurd z
 
 module _ (key : List ℕ) (hk : AreBytes key) (rounds : ℕ) (grant : List ℕ) (hg : AreBytes grant) (block : ℕ) (few : block < 4294967296)
     (right : ℕ) where
@@ -127,10 +126,12 @@ module _ (key : List ℕ) (rounds : ℕ) (roll : Roll) (contractor block right :
         Tells (issued_tries key rounds roll contractor block right asked out) contractor asked (verdict_number v) (verdict_contractor v) (verdict_right v)
 
     -- where the issue refused
-    pub refused-first : (r : Reason) → reason_number r ≡ issue_number key rounds roll contractor block right out → Answers (Refused r)
-    refused-first r e =
-        verdict_refused (issued_tries key rounds roll contractor block right asked out) contractor asked (reason_number r) (reason_positive r)
-        (first-before (issue_tries key rounds roll contractor block right out) (covered_tries right asked) (reason_number r) (reason_positive r) (sym e))
+    pub refused-first : (v : Verdict) (why : Reason) → v ≡ Err why → reason_number why ≡ issue_number key rounds roll contractor block right out → Answers v
+    refused-first v why ev e =
+        let ts = issued_tries key rounds roll contractor block right asked out in
+        let before = first-before (issue_tries key rounds roll contractor block right out) (covered_tries right asked) (reason_number why)
+        (reason_positive why) (sym e) in
+        subst Answers (sym ev) (verdict_refused ts contractor asked (reason_number why) (reason_positive why) before)
 
     -- where it did not, and the check was asked
     pub then_checked : AreBytes key → block < 4294967296 → issue_number key rounds roll contractor block right out ≡ 0

@@ -10,7 +10,6 @@ ghost use Rattle.issuing.specs.Issuing.{issue_output};
 ghost use Rattle.verdicts.specs.Decisions.{Decides, issued_tries};
 
 use grant::Verdict;
-use refusal::Outcome;
 use roll::Roll;
 
 // The verdict on a grant.
@@ -40,15 +39,12 @@ pub fn issue_then_check(
     out: &mut [u8],
 ) -> Verdict
     ensures result_value { verdict_number result ≡ first (issued_tries key.now rounds roll contractor size_block right asked out.old) }
-    ensures result_value_2 { verdict_contractor result ≡ answered
+    ensures contractor_value { verdict_contractor result ≡ answered
         (first (issued_tries key.now rounds roll contractor size_block right asked out.old)) contractor 0 }
-    ensures result_value_3 { verdict_right result ≡ answered
+    ensures right_value { verdict_right result ≡ answered
         (first (issued_tries key.now rounds roll contractor size_block right asked out.old)) asked 0 }
     ensures out_after { out.new ≡ issue_output key.now rounds roll contractor size_block right out.old }
 {
-    let outcome = issuing::issue(key, rounds, roll, contractor, size_block, right, out);
-    match outcome {
-        Outcome::Done => checking::check(key, rounds, roll, &out[..12], size_block, asked),
-        Outcome::Refused(reason) => Verdict::Refused(reason),
-    }
+    issuing::issue(key, rounds, roll, contractor, size_block, right, out)?;
+    checking::check(key, rounds, roll, &out[..12], size_block, asked)
 }

@@ -1,20 +1,16 @@
 -- `byte_slices::zeros_from` meets its contract.
-use mathlib.Core.Path.{◌≡◌, refl, sym, ◌∙◌}
-use Prim.Native.Nat.{◌-◌}
-use lib.ListN.{length, drop}
-use Rattle.byte_slices.specs.Slices.{all_zero}
-use Rattle.byte_slices.proofs.Zeros.{zero_next, not_zero, zero_end}
-use borrow.Author.Rules.{rules}
+use mathlib.Core.Path.{◌∙◌}
+use lib.Dec.{eqb}
+use lib.ListN.{drop}
+use Rattle.std.proofs.Common.{rules, tests}
+use Rattle.std.proofs.lemmas.Iterator.{YieldsList-from_slice}
+use Rattle.std.proofs.lemmas.Iterator.Adapters.{YieldsList-from_skip}
+use Rattle.std.proofs.lemmas.Iterator.Search.{all_from_yields_List}
+use Rattle.byte_slices.proofs.Zeros.{each_zero}
 use Rattle.byte_slices.proofs.zeros_from.Goals as goal
 
-pub loop-i-init : goal.loop-i-init
-loop-i-init c = refl
-
-pub returns-then-bytes-i-ne0 : goal.returns-then-bytes-i-ne0
-returns-then-bytes-i-ne0 c = sym (c.loop-i.invariant ∙ not_zero _ c.loop-i.i c.loop-i-test.true c.if-bytes-i-ne0.true)
-
-pub loop-i-preserved : goal.loop-i-preserved
-loop-i-preserved c = c.loop-i.invariant ∙ zero_next _ c.loop-i.i c.loop-i-test.true c.if-bytes-i-ne0.false
-
 pub returns : goal.returns
-returns c = sym (c.loop-i.invariant ∙ zero_end _ c.loop-i.i c.loop-i-test.false)
+returns c =
+    all_from_yields_List (λ b. eqb b 0) _ _ _ c.all.ensures.ran (YieldsList-from_skip c.args.n (YieldsList-from_slice c.args.bytes.now cc) cc)
+    (λ x b q k. search (rules, tests))
+    ∙ each_zero (drop c.args.n c.args.bytes.now)

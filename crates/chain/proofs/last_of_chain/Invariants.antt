@@ -1,7 +1,6 @@
 -- `chain::last_of_chain` meets its contract. The invariant: the last block of what is left to chain.
 use mathlib.Core.Path.{◌≡◌}
-use Prim.Native.Nat.{◌-◌, ◌/◌}
-use lib.ListN.{length, drop}
+use lib.ListN.{drop}
 use Rattle.rounds.specs.Rounds.{enciphered}
 use Rattle.block_bytes.specs.Blocks.{list_states}
 use Rattle.chaining.specs.Chaining.{chained, last_of, last_chained}
@@ -10,6 +9,3 @@ use Rattle.chain.proofs.last_of_chain.Given as goal
 abbrev pub invariant-loop-i : goal.invariant-loop-i
 invariant-loop-i l = let f = enciphered (list_states l.list) in
     last_chained f l.initial.last l.bytes ≡ last_of l.last (chained f l.last (drop l.i (list_states l.bytes)))
-
-abbrev pub decreases-loop-i : goal.decreases-loop-i
-decreases-loop-i l = length l.bytes / 12 - l.i

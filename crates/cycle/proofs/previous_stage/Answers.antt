@@ -2,12 +2,11 @@
 use mathlib.Core.Path.{ap, ◌∙◌}
 use mathlib.Core.List.{List, ◌++◌}
 use Prim.Native.Nat.{ℕ, ◌*◌}
-use lib.ListN.{length, drop}
+use lib.ListN.{drop}
 use Rattle.stages.specs.Columns.{plus}
 use Rattle.stages.specs.Stages.{inverse_step, step_constant, stage_before}
-use Rattle.stages.proofs.Padded.{length-held, plus_kept}
+use Rattle.stages.proofs.Padded.{plus_kept}
 use Rattle.inverse.proofs.Columns.{length-inverse}
-use borrow.Author.Rules.{rules}
 use Rattle.cycle.proofs.previous_stage.Goals as goal
 
 pub returns : goal.returns

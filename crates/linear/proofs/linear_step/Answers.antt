@@ -1,21 +1,20 @@
 -- `linear::linear_step` meets its contract.
 use mathlib.Core.Path.{◌≡◌, refl, sym, ap, ap₂, ◌∙◌}
 use mathlib.Core.List.{◌++◌}
-use Prim.Native.Nat.{ℕ, ◌+◌, ◌-◌, ◌*◌, ◌≤◌, ◌<◌}
+use Prim.Native.Nat.{ℕ, ◌+◌, ◌-◌, ◌*◌, ◌<◌}
 use native.Mathlib.Omega.{arith}
 use lib.ListN.{get_or, drop}
 use Rattle.stages.specs.Columns.{cell, columns}
 use Rattle.stages.specs.Stages.{previous}
 use Rattle.stages.proofs.Places.{previous_around, previous-next}
 use Rattle.stages.proofs.Written.{stepped, upto, read_unwritten, read-after, column-stepped, step_once}
-use borrow.Author.Rules.{rules}
 use Rattle.linear.proofs.linear_step.Goals as goal
 
 pub loop-j-init : goal.loop-j-init
 unfolding columns
-loop-j-init c = let p = previous_around (2 * c.args.t) 0 (omega (arith, c.requires.0.least)) (omega arith) in
+loop-j-init c = let p = previous_around (2 * c.args.t) 0 (omega (arith, c.requires.least)) (omega arith) in
     let e : 6 * c.args.t - 1 ≡ 2 + 3 * previous (2 * c.args.t) 0 = omega arith in
-    ((refl, (refl, ap (λ (p : ℕ). get_or c.args.k.now p 0) e)), (omega arith, refl))
+    ((refl, ap (λ (p : ℕ). get_or c.args.k.now p 0) e), refl)
 
 pub loop-j-preserved : goal.loop-j-preserved
 loop-j-preserved c = let l = c.loop-j in
@@ -23,14 +22,11 @@ loop-j-preserved c = let l = c.loop-j in
     let k = c.args.k.now in
     let n = 2 * c.args.t in
     let h : l.j < n = omega arith in (
-      (refl, (inv.0.1.0, read_unwritten n k l.k l.j h inv.1.1 2 _ (omega arith) ∙ ap (cell k 2) (previous-next n l.j h))),
-      (
-        search rules,
-        column-stepped n k l.k l.j h inv.1.1 _ c.row_one_after-y.result l.before c.column_term-m.result
-            (omega (arith, c.requires.0.most, c.requires.1)) (read_unwritten n k l.k l.j h inv.1.1 0 _ (omega arith))
-            (c.row_one_after-y.ensures ∙ read-after n k l.k l.j h inv.1.1 _ inv.0.1.0) inv.0.1.1
-            c.column_term-m.ensures,
-      ),
+      (inv.0.0, read_unwritten n k l.k l.j h inv.1 2 _ (omega arith) ∙ ap (cell k 2) (previous-next n l.j h)),
+      column-stepped n k l.k l.j h inv.1 _ c.row_one_after-y.result l.before c.column_term-m.result
+          (omega (arith, c.requires.most)) (read_unwritten n k l.k l.j h inv.1 0 _ (omega arith))
+          (c.row_one_after-y.ensures ∙ read-after n k l.k l.j h inv.1 _ inv.0.0) inv.0.1
+          c.column_term-m.ensures,
     )
 
 pub returns : goal.returns
@@ -38,4 +34,4 @@ returns c = let k = c.args.k.now in
     let l = c.loop-j in
     let e : l.j ≡ 2 * c.args.t = omega arith in
     let e' : 3 * (2 * c.args.t) ≡ 6 * c.args.t = omega arith in
-    l.invariant.1.1 ∙ ap (λ (j : ℕ). upto (stepped (2 * c.args.t) k) j k) e ∙ ap₂ ◌++◌ (sym (step_once (2 * c.args.t) k)) (ap (λ (m : ℕ). drop m k) e')
+    l.invariant.1 ∙ ap (λ (j : ℕ). upto (stepped (2 * c.args.t) k) j k) e ∙ ap₂ ◌++◌ (sym (step_once (2 * c.args.t) k)) (ap (λ (m : ℕ). drop m k) e')

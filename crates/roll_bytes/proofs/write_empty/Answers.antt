@@ -10,4 +10,4 @@ pub slice_bounds-fill-end-2 : goal.slice_bounds-fill-end-2
 slice_bounds-fill-end-2 c = sym (length-take-le counts_length c.args.out.now (omega (arith, c.requires)))
 
 pub returns : goal.returns
-returns c = emptied c.args.out.now _ _ c.requires c.fill.ensures c.fill-2.ensures
+returns c = emptied c.args.out.now _ _ c.requires (c.fill.ensures.after (λ y e. e)) (c.fill-2.ensures.after (λ y e. e))

@@ -1,11 +1,6 @@
 -- `route_run::run` meets its contract.
-use Prim.Native.Nat.{◌-◌}
-use lib.ListN.{length}
 use Rattle.route_run.proofs.Runs.{Running}
 use Rattle.route_run.proofs.run.Given as goal
 
 abbrev pub invariant-loop-i : goal.invariant-loop-i
 invariant-loop-i l = Running l.key l.calls l.initial.log l.log l.h l.i
-
-abbrev pub decreases-loop-i : goal.decreases-loop-i
-decreases-loop-i l = length l.calls - l.i

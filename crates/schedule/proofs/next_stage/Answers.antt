@@ -2,11 +2,10 @@
 use mathlib.Core.Path.{ap, ◌∙◌}
 use mathlib.Core.List.{List, ◌++◌}
 use Prim.Native.Nat.{ℕ, ◌*◌}
-use lib.ListN.{length, drop}
+use lib.ListN.{drop}
 use Rattle.stages.specs.Columns.{plus}
 use Rattle.stages.specs.Stages.{linear_step, step_constant, stage_after}
-use Rattle.stages.proofs.Padded.{length-plus, length-held, step_kept}
-use borrow.Author.Rules.{rules}
+use Rattle.stages.proofs.Padded.{length-plus, step_kept}
 use Rattle.schedule.proofs.next_stage.Goals as goal
 
 pub returns : goal.returns

@@ -1,6 +1,6 @@
 -- `unchain::is_zero_from` meets its contract. The invariant: whether what was undone so far is zero, and what is left.
 use mathlib.Core.Path.{refl, sym, ap, ◌∙◌}
-use mathlib.Core.Bool.{Bool, ◌&&◌}
+use mathlib.Core.Bool.{◌&&◌}
 use mathlib.Core.List.{List}
 use Prim.Native.Nat.{ℕ, ◌+◌, ◌/◌, ◌%◌}
 use native.Mathlib.Omega.{arith}
@@ -23,8 +23,8 @@ loop-i-preserved c = let inv = c.loop-i.invariant in
     c.plain_block-plain.ensures in
     let left = rest c.args.list.now c.args.bytes.now (c.loop-i.i + 1) 0 c.state_of-block.result in
     let z = zero_on _ c.args.bytes.now c.loop-i.i c.loop-i.previous c.loop-i.skip c.loop-i.zero c.plain_block-plain.result left _
-    inv.1 e c.zero_from.ensures in
-    (inv.0 ∙ z ∙ ap (λ (b : Bool). b && all_zero left) (sym c.both-so_far.ensures), omega arith)
+    inv.1 e c.zero_from-zero.ensures in
+    (inv.0 ∙ z, omega arith)
 
 pub returns : goal.returns
 unfolding list_bytes all_zero

@@ -2,8 +2,8 @@
 use mathlib.Core.Path.{◌≡◌}
 use mathlib.Core.Bool.{◌&&◌}
 use mathlib.Core.List.{List}
-use Prim.Native.Nat.{ℕ, ◌-◌, ◌/◌, ◌≤◌}
-use lib.ListN.{length, drop}
+use Prim.Native.Nat.{ℕ, ◌≤◌}
+use lib.ListN.{drop}
 use Rattle.layers.specs.State.{State}
 use Rattle.rounds.specs.Rounds.{enciphered}
 use Rattle.block_bytes.specs.Blocks.{list_states, list_bytes}
@@ -18,6 +18,3 @@ rest list bytes i skip previous = drop skip (list_bytes (unchained (enciphered (
 abbrev pub invariant-loop-i : goal.invariant-loop-i
 invariant-loop-i l = (all_zero (rest l.list l.bytes l.initial.i l.initial.skip l.initial.previous)
     ≡ (l.zero && all_zero (rest l.list l.bytes l.i l.skip l.previous))) × (l.skip ≤ 12)
-
-abbrev pub decreases-loop-i : goal.decreases-loop-i
-decreases-loop-i l = length l.bytes / 12 - l.i
