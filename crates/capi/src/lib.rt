@@ -1,6 +1,7 @@
 // The C interface: the calls over numbers and byte slices, as `capi_c` hands them to C. Each answers 0, or the number of the reason
 // for which it refuses; where it does not refuse, the check answers with contractor and the right asked for, a walk with its steps and direction,
 // and the opening of a page with the header's numbers.
+// Kept: a function for each name that C links, twins among them, and numbers in the place of reasons: the C interface.
 
 #![tactic(auto)]
 

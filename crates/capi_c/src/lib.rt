@@ -1,4 +1,5 @@
 // The calls that C links: each is the call of `capi` of that name, with the same clauses. A slice is a pointer and a length.
+// Kept: a function for each name that C links, twins among them: the C interface.
 
 #![tactic(auto)]
 

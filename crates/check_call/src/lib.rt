@@ -10,6 +10,7 @@ use grant::Verdict;
 use roll_bytes::RollBytes;
 
 // A verdict as a number.
+// Kept: the C interface: `gordzila_check` answers with one number.
 fn verdict_code(verdict: Verdict) -> u32
     requires { verdict_contractor verdict ≤ 200 }
     ensures { result ≡ verdict_code verdict }

@@ -5,6 +5,7 @@
 #![tactic(auto)]
 
 use key_lists::Direction;
+use printing::{echo, echo_u32, first, first_mut};
 use refusal::Reason;
 use std::io;
 
@@ -17,77 +18,70 @@ fn answer(
     out: &[u8],
     written: usize,
 ) -> io::Result<()> {
-    printing::number(rt, refusal::outcome_number(outcome) as u64)?;
-    printing::kept(rt, out, if outcome.is_ok() { written } else { 0 }, MARK)
+    let from = if outcome.is_ok() { written } else { 0 };
+    printing::answer(rt, outcome.map(|_| []))?;
+    printing::kept(rt, out, from, MARK)
 }
 
 // A call on a block, for a direction.
-fn cipher_line(rt: &(impl Print + Input), name: &[u8], direction: Direction) -> io::Result<()> {
+fn cipher_line(rt: &(impl Print + Input), name: &str, direction: Direction) -> io::Result<()> {
+    print!(rt; "{name}")?;
+    let k = echo(rt)?;
+    let rounds = echo_u32(rt)?;
+    let b = echo(rt)?;
+    let o = echo(rt)?;
+    let mut out = [MARK; 32];
     let key = [7u8; 32];
     let block = [9u8; 16];
-    let mut out = [MARK; 32];
-    printing::word(rt, name)?;
-    let k = printing::echo(rt)?;
-    let r = printing::echo_u32(rt)?;
-    let b = printing::echo(rt)?;
-    let o = printing::echo(rt)?;
-    let key = printing::first(&key, k);
-    let block = printing::first(&block, b);
-    let room = printing::first_mut(&mut out, o);
+    let key = first(&key, k);
+    let block = first(&block, b);
+    let room = first_mut(&mut out, o);
     let outcome = match direction {
-        Direction::Enciphering => cipher::encipher(key, r, block, room),
-        Direction::Deciphering => cipher::decipher(key, r, block, room),
+        Direction::Enciphering => cipher::encipher(key, rounds, block, room),
+        Direction::Deciphering => cipher::decipher(key, rounds, block, room),
     };
     answer(rt, outcome, &out, 12)
 }
 
-fn prepare_line(rt: &(impl Print + Input), name: &[u8], direction: Direction) -> io::Result<()> {
-    let key = [7u8; 32];
+fn prepare_line(rt: &(impl Print + Input), name: &str, direction: Direction) -> io::Result<()> {
+    print!(rt; "{name}")?;
+    let k = echo(rt)?;
+    let rounds = echo_u32(rt)?;
+    let o = echo(rt)?;
     let mut out = [MARK; 320];
-    printing::word(rt, name)?;
-    let k = printing::echo(rt)?;
-    let r = printing::echo_u32(rt)?;
-    let o = printing::echo(rt)?;
     let outcome = lists::prepare(
-        printing::first(&key, k),
-        r,
+        first(&[7u8; 32], k),
+        rounds,
         direction,
-        printing::first_mut(&mut out, o),
+        first_mut(&mut out, o),
     );
-    answer(rt, outcome, &out, 12 * (r as usize + 1))
+    answer(rt, outcome, &out, 12 * (rounds as usize + 1))
 }
 
 fn run_line(rt: &(impl Print + Input)) -> io::Result<()> {
-    let list = [7u8; 320];
-    let block = [9u8; 16];
+    print!(rt; "run")?;
+    let l = echo(rt)?;
+    let b = echo(rt)?;
+    let o = echo(rt)?;
     let mut out = [MARK; 32];
-    printing::word(rt, b"run")?;
-    let l = printing::echo(rt)?;
-    let b = printing::echo(rt)?;
-    let o = printing::echo(rt)?;
     let outcome = engine::run(
-        printing::first(&list, l),
-        printing::first(&block, b),
-        printing::first_mut(&mut out, o),
+        first(&[7u8; 320], l),
+        first(&[9u8; 16], b),
+        first_mut(&mut out, o),
     );
     answer(rt, outcome, &out, 12)
 }
 
 fn line(rt: &(impl Print + Input), call: u64) -> io::Result<()> {
     match call {
-        1 => cipher_line(rt, b"encipher", Direction::Enciphering),
-        2 => cipher_line(rt, b"decipher", Direction::Deciphering),
-        3 => prepare_line(rt, b"prepare_enciphering", Direction::Enciphering),
-        4 => prepare_line(rt, b"prepare_deciphering", Direction::Deciphering),
+        1 => cipher_line(rt, "encipher", Direction::Enciphering),
+        2 => cipher_line(rt, "decipher", Direction::Deciphering),
+        3 => prepare_line(rt, "prepare_enciphering", Direction::Enciphering),
+        4 => prepare_line(rt, "prepare_deciphering", Direction::Deciphering),
         _ => run_line(rt),
     }
 }
 
 fn main(rt: HostRuntime) -> io::Result<()> {
-    let rows = printing::read(&rt)?;
-    for _ in 0..rows {
-        let call = printing::read(&rt)?;
-        line(&rt, call)?;
-    }
-    Ok(())
+    printing::each_row(&rt, |call| line(&rt, call))
 }

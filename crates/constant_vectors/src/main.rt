@@ -5,24 +5,19 @@
 
 ghost use Rattle.sizes.specs.Sizes.{Sized};
 
+use printing::Hex;
 use std::io;
-
-fn print_line(rt: &impl Print, length: usize, s: usize, k: [u8; 24]) -> io::Result<()> {
-    printing::word(rt, b"constant ")?;
-    printing::decimal(rt, length as u64)?;
-    printing::space(rt)?;
-    printing::decimal(rt, s as u64)?;
-    printing::space(rt)?;
-    printing::hex_bytes(rt, printing::first(&k, length))?;
-    printing::newline(rt)
-}
 
 fn line(rt: &impl Print, t: usize, s: usize) -> io::Result<()>
     requires { Sized t }
 {
     let mut k = [0u8; 24];
     constants::add_constant(t, s, &mut k);
-    print_line(rt, 6 * t, s, k)
+    let length = 6 * t;
+    println!(rt;
+        "constant {length} {s} {}",
+        Hex(printing::first(&k, length))
+    )
 }
 
 // The steps 0 to 6t + 1, and numbers far above.
@@ -32,13 +27,10 @@ fn size_lines(rt: &impl Print, t: usize) -> io::Result<()>
     for s in 0..6 * t + 2 {
         line(rt, t, s)?;
     }
-    line(rt, t, 33)?;
-    line(rt, t, 43)?;
-    line(rt, t, 44)?;
-    line(rt, t, 65)?;
-    line(rt, t, 257)?;
-    line(rt, t, 65537)?;
-    line(rt, t, 4294967295)
+    for s in [33, 43, 44, 65, 257, 65537, 4294967295] {
+        line(rt, t, s)?;
+    }
+    Ok(())
 }
 
 fn main(rt: HostRuntime) -> io::Result<()> {

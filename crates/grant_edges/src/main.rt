@@ -4,41 +4,16 @@
 
 #![tactic(auto)]
 
-use grant::Verdict;
+use printing::{echo, echo_u32, first, first_mut};
 use refusal::Reason;
 use roll::Roll;
 use std::io;
 
 const MARK: u8 = 165;
 
-fn count(rt: &impl Print, n: u16) -> io::Result<()> {
-    printing::number(rt, n as u64)
-}
-
-fn outcome(rt: &impl Print, o: Result<(), Reason>) -> io::Result<u32> {
-    let n = refusal::outcome_number(o);
-    printing::number(rt, n as u64)?;
-    Ok(n)
-}
-
-fn verdict(rt: &impl Print, v: Verdict) -> io::Result<()> {
-    match v {
-        Ok(g) => {
-            printing::number(rt, 0)?;
-            printing::number(rt, g.contractor as u64)?;
-            printing::number(rt, u32::from(g.right) as u64)?;
-        }
-        Err(reason) => {
-            printing::number(rt, u32::from(reason) as u64)?;
-            printing::word(rt, b" 0 0")?;
-        }
-    }
-    printing::newline(rt)
-}
-
 // Contractors 1, 2 and 200 have the count that is read, and everyone else 0.
 fn echo_counts(rt: &(impl Print + Input)) -> io::Result<[u16; 200]> {
-    let count = (printing::echo(rt)? % 65536) as u16;
+    let count = (echo(rt)? % 65536) as u16;
     let mut counts = [0u16; 200];
     counts[0] = count;
     counts[1] = count;
@@ -47,7 +22,7 @@ fn echo_counts(rt: &(impl Print + Input)) -> io::Result<[u16; 200]> {
 }
 
 fn echo_figure(rt: &(impl Print + Input)) -> io::Result<u8> {
-    Ok((printing::echo(rt)? % 256) as u8)
+    Ok((echo(rt)? % 256) as u8)
 }
 
 // A roll to be changed: contractors 1, 2 and 200 have the figure that is read, and everyone else that of an empty one.
@@ -62,6 +37,7 @@ fn echo_roll(rt: &(impl Print + Input)) -> io::Result<Roll> {
 }
 
 // One contractor has a figure, and everyone else one that means the other right.
+// Kept: a roll's figures are bytes, and the rows have ones that mean no right.
 fn rights_with(contractor: u32, figure: u8) -> [u8; 200] {
     let other: u8 = if figure == 2 { 1 } else { 2 };
     let mut rights = [other; 200];
@@ -75,25 +51,12 @@ fn rights_with(contractor: u32, figure: u8) -> [u8; 200] {
 }
 
 // A roll to be looked at, and the contractor of the call, who alone has the figure that is read.
-#[derive(Drop)]
-struct Looked {
-    roll: Roll,
-    contractor: u32,
-}
-
-fn echo_looked(rt: &(impl Print + Input)) -> io::Result<Looked> {
+fn echo_looked(rt: &(impl Print + Input)) -> io::Result<(Roll, u32)> {
     let counts = echo_counts(rt)?;
     let figure = echo_figure(rt)?;
-    let contractor = printing::echo_u32(rt)?;
+    let contractor = echo_u32(rt)?;
     let rights = rights_with(contractor, figure);
-    Ok(Looked {
-        roll: Roll { counts, rights },
-        contractor,
-    })
-}
-
-fn figure(rt: &impl Print, n: u8) -> io::Result<()> {
-    printing::number(rt, n as u64)
+    Ok((Roll { counts, rights }, contractor))
 }
 
 // The counts of contractors 1, 2 and 200 after a call, which leaves the roll as it was where it refuses, and then their figures.
@@ -101,36 +64,30 @@ fn changed(rt: &impl Print, roll: Roll, answer: Result<Roll, Reason>) -> io::Res
     let after = answer.unwrap_or(roll);
     let counts = after.counts;
     let rights = after.rights;
-    outcome(rt, answer.map(|_| ()))?;
-    count(rt, counts[0])?;
-    count(rt, counts[1])?;
-    count(rt, counts[199])?;
-    figure(rt, rights[0])?;
-    figure(rt, rights[1])?;
-    figure(rt, rights[199])?;
-    printing::newline(rt)
+    printing::answer(rt, answer.map(|_| []))?;
+    print!(rt; " {} {} {}", counts[0], counts[1], counts[199])?;
+    println!(rt; " {} {} {}", rights[0], rights[1], rights[199])
 }
 
-fn enter_line(rt: &(impl Print + Input)) -> io::Result<()> {
-    printing::word(rt, b"enter")?;
+// An entry, or a change of a contractor's right.
+fn right_line<F: FnOnce(Roll, u32, u32) -> Result<Roll, Reason>>(
+    rt: &(impl Print + Input),
+    name: &str,
+    call: F,
+) -> io::Result<()>
+    requires { F.IsAlwaysCallable call }
+{
+    print!(rt; "{name}")?;
     let roll = echo_roll(rt)?;
-    let c = printing::echo_u32(rt)?;
-    let right = printing::echo_u32(rt)?;
-    changed(rt, roll, roll_changes::enter(roll, c, right))
-}
-
-fn right_line(rt: &(impl Print + Input)) -> io::Result<()> {
-    printing::word(rt, b"right")?;
-    let roll = echo_roll(rt)?;
-    let c = printing::echo_u32(rt)?;
-    let right = printing::echo_u32(rt)?;
-    changed(rt, roll, roll_changes::change_right(roll, c, right))
+    let contractor = echo_u32(rt)?;
+    let right = echo_u32(rt)?;
+    changed(rt, roll, call(roll, contractor, right))
 }
 
 fn withdraw_line(rt: &(impl Print + Input)) -> io::Result<()> {
-    printing::word(rt, b"withdraw")?;
+    print!(rt; "withdraw")?;
     let roll = echo_roll(rt)?;
-    let c = printing::echo_u32(rt)?;
+    let c = echo_u32(rt)?;
     changed(rt, roll, roll_changes::withdraw(roll, c))
 }
 
@@ -143,91 +100,60 @@ fn named_block(key: &[u8], rounds: u32, issued: &[u8]) -> u32 {
 
 // An issue, and the size block that stands in what was issued.
 fn issue_line(rt: &(impl Print + Input)) -> io::Result<()> {
-    let key = [7u8; 32];
+    print!(rt; "issue")?;
+    let k = echo(rt)?;
+    let rounds = echo_u32(rt)?;
+    let o = echo(rt)?;
+    let (roll, contractor) = echo_looked(rt)?;
+    let asked = echo_u32(rt)?;
+    let right = echo_u32(rt)?;
+    let bytes = [7u8; 32];
+    let key = first(&bytes, k);
     let mut out = [MARK; 16];
-    printing::word(rt, b"issue")?;
-    let k = printing::echo(rt)?;
-    let r = printing::echo_u32(rt)?;
-    let o = printing::echo(rt)?;
-    let looked = echo_looked(rt)?;
-    let asked = printing::echo_u32(rt)?;
-    let right = printing::echo_u32(rt)?;
-    let answer = issuing::issue(
-        printing::first(&key, k),
-        r,
-        looked.roll,
-        looked.contractor,
-        asked,
-        right,
-        printing::first_mut(&mut out, o),
-    );
-    let n = outcome(rt, answer)?;
-    let named = if n == 0 {
-        named_block(printing::first(&key, k), r, printing::first(&out, 12))
-    } else {
-        0
-    };
-    printing::number(rt, named as u64)?;
-    printing::kept(rt, &out, if n == 0 { 12 } else { 0 }, MARK)
-}
-
-fn byte(n: usize) -> u8 {
-    (n % 256) as u8
+    let room = first_mut(&mut out, o);
+    let answer = issuing::issue(key, rounds, roll, contractor, asked, right, room);
+    let written = if answer.is_ok() { 12 } else { 0 };
+    printing::answer(
+        rt,
+        answer.map(|_| [named_block(key, rounds, first(&out, 12))]),
+    )?;
+    printing::kept(rt, &out, written, MARK)
 }
 
 // Twelve plain bytes that are a grant of a contractor, or not quite: count, size block, right and mark are read.
 fn echo_plain(rt: &(impl Print + Input), contractor: u32) -> io::Result<[u8; 12]> {
-    let c = contractor as usize;
-    let n = printing::echo(rt)?;
-    let b = printing::echo(rt)?;
-    let r = printing::echo(rt)?;
-    let m = printing::echo(rt)?;
+    let c = contractor.to_be_bytes();
+    let n = echo_u32(rt)?.to_be_bytes();
+    let b = echo_u32(rt)?.to_be_bytes();
+    let r = echo_u32(rt)?.to_be_bytes();
+    let m = echo_u32(rt)?.to_be_bytes();
     Ok([
-        byte(c / 256),
-        byte(c),
-        byte(n / 256),
-        byte(n),
-        byte(b / 16777216),
-        byte(b / 65536),
-        byte(b / 256),
-        byte(b),
-        byte(r),
-        byte(m / 65536),
-        byte(m / 256),
-        byte(m),
+        c[2], c[3], n[2], n[3], b[0], b[1], b[2], b[3], r[3], m[1], m[2], m[3],
     ])
 }
 
 // A grant, enciphered under twelve bytes of the key with ten rounds, and checked. It is made without an issue, so that it can name size block 0.
 fn check_line(rt: &(impl Print + Input)) -> io::Result<()> {
+    print!(rt; "check")?;
+    let k = echo(rt)?;
+    let rounds = echo_u32(rt)?;
+    let l = echo(rt)?;
+    let asked = echo_u32(rt)?;
+    let right = echo_u32(rt)?;
+    let (roll, contractor) = echo_looked(rt)?;
+    let plain = echo_plain(rt, contractor)?;
     let key = [7u8; 32];
     let mut grant = [0u8; 16];
-    printing::word(rt, b"check")?;
-    let k = printing::echo(rt)?;
-    let r = printing::echo_u32(rt)?;
-    let l = printing::echo(rt)?;
-    let asked = printing::echo_u32(rt)?;
-    let right = printing::echo_u32(rt)?;
-    let looked = echo_looked(rt)?;
-    let plain = echo_plain(rt, looked.contractor)?;
-    let _ = cipher::encipher(printing::first(&key, 12), 10, &plain, &mut grant);
-    verdict(
-        rt,
-        checking::check(
-            printing::first(&key, k),
-            r,
-            looked.roll,
-            printing::first(&grant, l),
-            asked,
-            right,
-        ),
-    )
+    let _ = cipher::encipher(first(&key, 12), 10, &plain, &mut grant);
+    let verdict = checking::check(first(&key, k), rounds, roll, first(&grant, l), asked, right);
+    printing::answer(rt, verdict.map(|g| [g.contractor, u32::from(g.right)]))?;
+    print!(rt; "\n")
 }
 
 fn line(rt: &(impl Print + Input), call: u64) -> io::Result<()> {
     match call {
-        1 => enter_line(rt),
-        2 => right_line(rt),
+        1 => right_line(rt, "enter", roll_changes::enter),
+        2 => right_line(rt, "right", roll_changes::change_right),
         3 => withdraw_line(rt),
         4 => issue_line(rt),
         _ => check_line(rt),
@@ -235,10 +161,5 @@ fn line(rt: &(impl Print + Input), call: u64) -> io::Result<()> {
 }
 
 fn main(rt: HostRuntime) -> io::Result<()> {
-    let rows = printing::read(&rt)?;
-    for _ in 0..rows {
-        let call = printing::read(&rt)?;
-        line(&rt, call)?;
-    }
-    Ok(())
+    printing::each_row(&rt, |call| line(&rt, call))
 }

@@ -6,6 +6,7 @@
 
 use holder::{Holder, Way};
 use holder_walk::Walked;
+use printing::{echo, first};
 use refusal::Reason;
 use std::io;
 
@@ -17,43 +18,31 @@ fn answered<T: Drop>(answer: Result<T, Reason>, refused: T) -> (u32, T) {
     }
 }
 
-fn number(rt: &impl Print, n: u32) -> io::Result<()> {
-    printing::number(rt, n as u64)
-}
-
-fn way(rt: &impl Print, w: Way) -> io::Result<()> {
+fn way(w: Way) -> &'static str {
     match w {
-        Way::Forward => printing::word(rt, b" forward"),
-        Way::Back => printing::word(rt, b" back"),
+        Way::Forward => "forward",
+        Way::Back => "back",
     }
 }
 
-// A key's length and a stage's number, as a holder has them.
-fn held(rt: &impl Print, h: Holder) -> io::Result<()> {
-    printing::number(rt, h.length as u64)?;
-    printing::number(rt, h.number as u64)?;
-    printing::newline(rt)
-}
-
+// The answer of a call that makes a holder: a key's length and a stage's number, as the holder has them.
 fn made(rt: &impl Print, answer: Result<Holder, Reason>) -> io::Result<()> {
     let (n, h) = answered(answer, Holder::default());
-    number(rt, n)?;
-    held(rt, h)
+    println!(rt; " {n} {} {}", h.length, h.number)
 }
 
+// Kept: beside `straight_line`; they differ in the call and in what a row has for it.
 fn make_line(rt: &(impl Print + Input)) -> io::Result<()> {
-    let key = [7u8; 32];
-    printing::word(rt, b"make")?;
-    let k = printing::echo(rt)?;
-    made(rt, holder_from_key::make(printing::first(&key, k)))
+    print!(rt; "make")?;
+    let k = echo(rt)?;
+    made(rt, holder_from_key::make(first(&[7u8; 32], k)))
 }
 
 fn straight_line(rt: &(impl Print + Input)) -> io::Result<()> {
-    let key = [7u8; 32];
-    printing::word(rt, b"straight")?;
-    let k = printing::echo(rt)?;
-    let n = printing::echo(rt)?;
-    made(rt, holder_from_key::straight(printing::first(&key, k), n))
+    print!(rt; "straight")?;
+    let k = echo(rt)?;
+    let n = echo(rt)?;
+    made(rt, holder_from_key::straight(first(&[7u8; 32], k), n))
 }
 
 // A walk's number, and what it answers; where it is refused, the holder as it was and no steps forward.
@@ -67,65 +56,47 @@ fn walked(h: Holder, d: usize) -> (u32, Walked) {
 }
 
 fn walk_line(rt: &(impl Print + Input)) -> io::Result<()> {
-    let key = [7u8; 32];
-    printing::word(rt, b"walk")?;
-    let k = printing::echo(rt)?;
-    let s = printing::echo(rt)?;
-    let d = printing::echo(rt)?;
-    let from = holder_from_key::straight(printing::first(&key, k), s);
+    print!(rt; "walk")?;
+    let k = echo(rt)?;
+    let s = echo(rt)?;
+    let d = echo(rt)?;
+    let from = holder_from_key::straight(first(&[7u8; 32], k), s);
     let (n, w) = walked(from.unwrap_or_default(), d);
-    number(rt, n)?;
-    printing::number(rt, w.steps as u64)?;
-    way(rt, w.way)?;
-    held(rt, w.holder)
+    print!(rt; " {n} {} {}", w.steps, way(w.way))?;
+    println!(rt; " {} {}", w.holder.length, w.holder.number)
 }
 
-fn kept(rt: &impl Print, n: u32, ok: bool) -> io::Result<()> {
-    number(rt, n)?;
-    if ok {
-        printing::word(rt, b" kept")
-    } else {
-        printing::word(rt, b" changed")
-    }
+fn kept(same: bool) -> &'static str {
+    if same { "kept" } else { "changed" }
 }
 
 fn step_case(rt: &impl Print, h: Holder) -> io::Result<()> {
-    printing::word(rt, b" forward")?;
     let (n, forward) = answered(holder_steps::forward(h), h);
-    kept(rt, n, forward == h)?;
-    printing::word(rt, b" back")?;
+    print!(rt; " forward {n} {}", kept(forward == h))?;
     let (n, back) = answered(holder_steps::back(h), h);
-    kept(rt, n, back == h)
+    print!(rt; " back {n} {}", kept(back == h))
 }
 
 fn walk_case(rt: &impl Print, h: Holder, d: usize) -> io::Result<()> {
     let (n, w) = walked(h, d);
-    printing::word(rt, b" walk")?;
-    printing::number(rt, d as u64)?;
-    kept(rt, n, w.holder == h)?;
-    printing::number(rt, w.steps as u64)?;
-    way(rt, w.way)
+    print!(rt; " walk {d} {n} {}", kept(w.holder == h))?;
+    print!(rt; " {} {}", w.steps, way(w.way))
 }
 
 // A refused request for the subkey answers no subkey: zeros stand for it.
 fn subkey_case(rt: &impl Print, h: Holder) -> io::Result<()> {
     let (n, k) = answered(holder_steps::subkey(h), [0u8; 12]);
-    printing::word(rt, b" subkey")?;
-    number(rt, n)?;
-    if k == [0u8; 12] {
-        printing::word(rt, b" zeros\n")
-    } else {
-        printing::word(rt, b" given\n")
-    }
+    let given = if k == [0u8; 12] { "zeros" } else { "given" };
+    println!(rt; " subkey {n} {given}")
 }
 
 // Every call on a holder that no call made, whole or not. There is no stage 99.
 fn handed_line(rt: &(impl Print + Input)) -> io::Result<()> {
     let mut bytes = [0u8; 24];
-    printing::word(rt, b"handed")?;
-    let length = printing::echo(rt)?;
-    let number = printing::echo(rt)?;
-    let place = printing::echo(rt)?;
+    print!(rt; "handed")?;
+    let length = echo(rt)?;
+    let number = echo(rt)?;
+    let place = echo(rt)?;
     bytes[place % 24] = 1;
     let h = Holder {
         length,
@@ -148,10 +119,5 @@ fn line(rt: &(impl Print + Input), call: u64) -> io::Result<()> {
 }
 
 fn main(rt: HostRuntime) -> io::Result<()> {
-    let rows = printing::read(&rt)?;
-    for _ in 0..rows {
-        let call = printing::read(&rt)?;
-        line(&rt, call)?;
-    }
-    Ok(())
+    printing::each_row(&rt, |call| line(&rt, call))
 }

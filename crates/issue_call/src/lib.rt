@@ -10,6 +10,7 @@ use refusal::Reason;
 use roll_bytes::RollBytes;
 
 // Issues a grant: twelve bytes to the output.
+// Kept: a line of its own, as in `check_call` and `queue_call`: each is one call of C, over one generic call.
 #[tactic(auto, unfolding(crate::specs::IssueCall::issue_call_output))]
 pub fn issue(
     key: &[u8],

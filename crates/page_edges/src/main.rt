@@ -6,32 +6,14 @@
 
 use byte_slices::zeros_from;
 use pages::Header;
-use printing::{all_marks, first, first_mut};
+use printing::{all_marks, echo, echo_u32, first, first_mut};
 use std::io;
 
 const MARK: u8 = 165;
 
+// Kept: a row of the input has a number where the second key is the first once more.
 fn second_bytes(same: usize) -> [u8; 32] {
     if same == 1 { [7u8; 32] } else { [9u8; 32] }
-}
-
-// The steps in which a page is made, for page 7 of a size block. None of them refuses size block 0.
-fn laid_out(block: u32, payload: &[u8], page: &mut [u8]) {
-    if payload.len() == 492 && page.len() == 512 {
-        page_steps::lay_out(block, 7, payload, page);
-    }
-}
-
-fn chained(room: &mut [u8], page: &mut [u8]) {
-    if room.len() == 576 && page.len() == 512 {
-        page_steps::chain_payload(&[7u8; 12], 10, room, page);
-    }
-}
-
-fn checked(room: &mut [u8], page: &mut [u8]) {
-    if room.len() == 576 && page.len() == 512 {
-        page_steps::put_check(&[9u8; 12], 10, room, page);
-    }
 }
 
 // A payload of 17 bytes and zeros, with one more byte put at a place.
@@ -44,15 +26,15 @@ fn payload(pad: u8, spot: usize) -> [u8; 492] {
 }
 
 // A page with such a payload and any used count, with bytes behind it: laid out as one that is used to its last byte, with the count then put in, so
-// that it is chained and checked as it stands.
+// that it is chained and checked as it stands. None of these steps refuses size block 0.
 fn page(block: u32, payload: &[u8; 492], count: usize) -> [u8; 520] {
     let mut page = [0u8; 512];
-    laid_out(block, payload, &mut page);
+    page_steps::lay_out(block, 7, payload, &mut page);
     page[6] = (count / 256 % 256) as u8;
     page[7] = (count % 256) as u8;
     let mut room = [0u8; 576];
-    chained(&mut room, &mut page);
-    checked(&mut room, &mut page);
+    page_steps::chain_payload(&[7u8; 12], 10, &mut room, &mut page);
+    page_steps::put_check(&[9u8; 12], 10, &mut room, &mut page);
     let mut longer = [0u8; 520];
     blocks::put_bytes(&mut longer, 0, &page);
     longer
@@ -71,14 +53,13 @@ fn is_written(out: &[u8], payload: &[u8; 492]) -> bool {
 }
 
 // What the output holds: what was to be written, or what stood there.
-fn tell_output(rt: &impl Print, written: bool, kept: bool) -> io::Result<()> {
-    printing::space(rt)?;
+fn output_word(written: bool, kept: bool) -> &'static str {
     if kept {
-        printing::word(rt, b"kept ")
+        "kept"
     } else if written {
-        printing::word(rt, b"written ")
+        "written"
     } else {
-        printing::word(rt, b"broken ")
+        "broken"
     }
 }
 
@@ -86,13 +67,13 @@ fn is_cleared(scratch: &[u8]) -> bool {
     zeros_from(first(scratch, 576), 0) && all_marks(scratch, 576, MARK)
 }
 
-fn tell_scratch(rt: &impl Print, scratch: &[u8]) -> io::Result<()> {
+fn scratch_word(scratch: &[u8]) -> &'static str {
     if all_marks(scratch, 0, MARK) {
-        printing::word(rt, b"kept\n")
+        "kept"
     } else if is_cleared(scratch) {
-        printing::word(rt, b"cleared\n")
+        "cleared"
     } else {
-        printing::word(rt, b"broken\n")
+        "broken"
     }
 }
 
@@ -120,15 +101,15 @@ fn opens_again(k: usize, rounds: u32, size_block: u32, page: &[u8], used: usize)
 }
 
 fn seal_line(rt: &(impl Print + Input)) -> io::Result<()> {
-    printing::word(rt, b"seal")?;
-    let k = printing::echo(rt)?;
-    let l = printing::echo(rt)?;
-    let second = second_bytes(printing::echo(rt)?);
-    let rounds = printing::echo_u32(rt)?;
-    let block = printing::echo_u32(rt)?;
-    let used = printing::echo(rt)?;
-    let s = printing::echo(rt)?;
-    let o = printing::echo(rt)?;
+    print!(rt; "seal")?;
+    let k = echo(rt)?;
+    let l = echo(rt)?;
+    let second = second_bytes(echo(rt)?);
+    let rounds = echo_u32(rt)?;
+    let block = echo_u32(rt)?;
+    let used = echo(rt)?;
+    let s = echo(rt)?;
+    let o = echo(rt)?;
     let mut scratch = [MARK; 640];
     let mut out = [MARK; 520];
     let answer = sealing::seal(
@@ -141,32 +122,29 @@ fn seal_line(rt: &(impl Print + Input)) -> io::Result<()> {
         first_mut(&mut scratch, s),
         first_mut(&mut out, o),
     );
-    printing::number(rt, refusal::outcome_number(answer) as u64)?;
-    tell_output(
-        rt,
-        opens_again(k, rounds, block, &out, used),
-        all_marks(&out, 0, MARK),
-    )?;
-    tell_scratch(rt, &scratch)
+    let written = opens_again(k, rounds, block, &out, used);
+    let output = output_word(written, all_marks(&out, 0, MARK));
+    printing::answer(rt, answer.map(|_| []))?;
+    println!(rt; " {output} {}", scratch_word(&scratch))
 }
 
 fn open_line(rt: &(impl Print + Input)) -> io::Result<()> {
-    printing::word(rt, b"open")?;
-    let k = printing::echo(rt)?;
-    let l = printing::echo(rt)?;
-    let second = second_bytes(printing::echo(rt)?);
-    let rounds = printing::echo_u32(rt)?;
-    let n = printing::echo(rt)?;
-    let size_block = printing::echo_u32(rt)?;
-    let count = printing::echo(rt)?;
-    let pad = (printing::echo(rt)? % 256) as u8;
-    let sealed = payload(pad, printing::echo(rt)?);
+    print!(rt; "open")?;
+    let k = echo(rt)?;
+    let l = echo(rt)?;
+    let second = second_bytes(echo(rt)?);
+    let rounds = echo_u32(rt)?;
+    let n = echo(rt)?;
+    let size_block = echo_u32(rt)?;
+    let count = echo(rt)?;
+    let pad = (echo(rt)? % 256) as u8;
+    let sealed = payload(pad, echo(rt)?);
     let mut bytes = page(size_block, &sealed, count);
-    let place = printing::echo(rt)? % 512;
-    let change = (printing::echo(rt)? % 256) as u8;
-    bytes[place] = bytes[place] ^ change;
-    let s = printing::echo(rt)?;
-    let o = printing::echo(rt)?;
+    let place = echo(rt)? % 512;
+    let change = (echo(rt)? % 256) as u8;
+    bytes[place] ^= change;
+    let s = echo(rt)?;
+    let o = echo(rt)?;
     let mut scratch = [MARK; 640];
     let mut out = [MARK; 520];
     let opened = opening::open(
@@ -177,27 +155,21 @@ fn open_line(rt: &(impl Print + Input)) -> io::Result<()> {
         first_mut(&mut scratch, s),
         first_mut(&mut out, o),
     );
-    let header = opened.unwrap_or(Header {
-        size_block: 0,
-        page_number: 0,
-        used: 0,
-    });
-    printing::number(rt, refusal::outcome_number(opened.map(|_| ())) as u64)?;
-    printing::number(rt, header.size_block as u64)?;
-    printing::number(rt, header.page_number as u64)?;
-    printing::number(rt, header.used as u64)?;
-    tell_output(rt, is_written(&out, &sealed), all_marks(&out, 0, MARK))?;
-    tell_scratch(rt, &scratch)
+    let output = output_word(is_written(&out, &sealed), all_marks(&out, 0, MARK));
+    printing::answer(
+        rt,
+        opened.map(|h| [h.size_block, u32::from(h.page_number), u32::from(h.used)]),
+    )?;
+    println!(rt; " {output} {}", scratch_word(&scratch))
+}
+
+fn line(rt: &(impl Print + Input), call: u64) -> io::Result<()> {
+    match call {
+        1 => seal_line(rt),
+        _ => open_line(rt),
+    }
 }
 
 fn main(rt: HostRuntime) -> io::Result<()> {
-    let rows = printing::read(&rt)?;
-    for _ in 0..rows {
-        if printing::read(&rt)? == 1 {
-            seal_line(&rt)?;
-        } else {
-            open_line(&rt)?;
-        }
-    }
-    Ok(())
+    printing::each_row(&rt, |call| line(&rt, call))
 }

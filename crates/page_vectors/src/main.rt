@@ -4,6 +4,7 @@
 #![tactic(auto)]
 
 use pages::Header;
+use printing::{Draws, Hex, first, first_mut};
 use std::io;
 
 // A page opens to the payload and the numbers that were sealed.
@@ -23,18 +24,17 @@ fn opens(
     }
 }
 
-// One page under two keys: it is sealed, printed and opened.
-fn page_line(
-    rt: &impl Print,
-    first_key: &[u8],
-    second_key: &[u8],
-    rounds: u32,
-    numbers: &[u8; 8],
-    used: usize,
-    payload: &[u8],
-) -> io::Result<()> {
-    let block = numbers::four_from(numbers[0], numbers[1], numbers[2], numbers[3]);
-    let number = numbers::two_from(numbers[4], numbers[5]);
+// One page under a key that was drawn, with the second key, the numbers and the payload drawn after it: it is sealed, printed and opened.
+fn page_line(rt: &impl Print, draws: &mut Draws, first_key: &[u8], rounds: u32) -> io::Result<()> {
+    let mut second_bytes = [0u8; 24];
+    let second_key = first_mut(&mut second_bytes, first_key.len());
+    draws.fill(second_key);
+    let drawn = draws.bytes::<8>();
+    let block = u32::from_be_bytes([drawn[0], drawn[1], drawn[2], drawn[3]]);
+    let number = u16::from_be_bytes([drawn[4], drawn[5]]);
+    let used = u16::from_be_bytes([drawn[6], drawn[7]]) % 493;
+    let mut payload = [0u8; 492];
+    draws.fill(first_mut(&mut payload, used as usize));
     let mut scratch = [0u8; 576];
     let mut page = [0u8; 512];
     let _ = sealing::seal(
@@ -43,76 +43,23 @@ fn page_line(
         rounds,
         block,
         number,
-        printing::first(payload, used),
+        first(&payload, used as usize),
         &mut scratch,
         &mut page,
     );
-    printing::word(rt, b"page ")?;
-    printing::hex_bytes(rt, first_key)?;
-    printing::space(rt)?;
-    printing::hex_bytes(rt, second_key)?;
-    printing::number(rt, rounds as u64)?;
-    printing::number(rt, block as u64)?;
-    printing::number(rt, number as u64)?;
-    printing::number(rt, used as u64)?;
-    printing::space(rt)?;
-    printing::hex_bytes(rt, &page)?;
+    print!(rt; "page {} {} {rounds}", Hex(first_key), Hex(second_key))?;
+    print!(rt; " {block} {number} {used} {}", Hex(&page))?;
     let header = Header {
         size_block: block,
         page_number: number,
-        used: (used % 65536) as u16,
-    };
-    if !opens(first_key, second_key, rounds, &page, header, payload) {
-        printing::word(rt, b" does not open")?;
-    }
-    printing::newline(rt)
-}
-
-// Keys, numbers and payload drawn for one page. The answer is the generator's number after them.
-fn line(rt: &impl Print, k: usize, rounds: u32, x: u64) -> io::Result<u64> {
-    let mut first_bytes = [0u8; 24];
-    let mut second_bytes = [0u8; 24];
-    let mut drawn = [0u8; 8];
-    let mut payload = [0u8; 492];
-    let x1 = printing::draw(x, printing::first_mut(&mut first_bytes, k));
-    let x2 = printing::draw(x1, printing::first_mut(&mut second_bytes, k));
-    let x3 = printing::draw(x2, &mut drawn);
-    let used = (numbers::two_from(drawn[6], drawn[7]) % 493) as usize;
-    let x4 = printing::draw(x3, printing::first_mut(&mut payload, used));
-    page_line(
-        rt,
-        printing::first(&first_bytes, k),
-        printing::first(&second_bytes, k),
-        rounds,
-        &drawn,
         used,
-        &payload,
-    )?;
-    Ok(x4)
-}
-
-// The pages for four round counts.
-fn four_lines(
-    rt: &impl Print,
-    k: usize,
-    x: u64,
-    a: u32,
-    b: u32,
-    c: u32,
-    d: u32,
-) -> io::Result<u64> {
-    line(
-        rt,
-        k,
-        d,
-        line(rt, k, c, line(rt, k, b, line(rt, k, a, x)?)?)?,
-    )
+    };
+    if !opens(first_key, second_key, rounds, &page, header, &payload) {
+        print!(rt; " does not open")?;
+    }
+    print!(rt; "\n")
 }
 
 fn main(rt: HostRuntime) -> io::Result<()> {
-    let short = line(&rt, 12, 11, line(&rt, 12, 10, 1)?)?;
-    let middle = four_lines(&rt, 18, short, 14, 15, 16, 17)?;
-    let long = four_lines(&rt, 24, middle, 18, 19, 20, 21)?;
-    line(&rt, 24, 23, line(&rt, 24, 22, long)?)?;
-    Ok(())
+    printing::each_key(1, |draws, key, rounds| page_line(&rt, draws, key, rounds))
 }

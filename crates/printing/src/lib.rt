@@ -3,91 +3,86 @@
 
 #![tactic(auto)]
 
+use std::fmt::{self, Display, Formatter, Write};
 use std::io::{self, Read};
 
-// The generator's next number.
-pub fn next(x: u64) -> u64 {
-    ((x % 2147483648) * 1103515245 + 12345) % 2147483648
-}
-
-// The byte drawn at the generator's number x.
-pub fn byte_of(x: u64) -> u8 {
-    (x / 65536 % 256) as u8
-}
-
-// A column drawn, with the generator's number after it.
+// The generator, at its latest number.
 #[derive(Drop)]
-pub struct DrawnColumn {
-    pub x: u64,
-    pub column: [u8; 3],
+pub struct Draws {
+    x: u64,
 }
 
-pub fn draw_column(x: u64) -> DrawnColumn {
-    let x1 = next(x);
-    let x2 = next(x1);
-    let x3 = next(x2);
-    DrawnColumn {
-        x: x3,
-        column: [byte_of(x1), byte_of(x2), byte_of(x3)],
+impl Draws {
+    pub fn new() -> Draws {
+        Draws { x: 1 }
+    }
+
+    pub fn byte(&mut self) -> u8 {
+        self.x = ((self.x % 2147483648) * 1103515245 + 12345) % 2147483648;
+        (self.x / 65536 % 256) as u8
+    }
+
+    pub fn fill(&mut self, out: &mut [u8]) {
+        for b in out {
+            *b = self.byte();
+        }
+    }
+
+    pub fn bytes<const N: usize>(&mut self) -> [u8; N] {
+        let mut out = [0u8; N];
+        self.fill(&mut out);
+        out
     }
 }
 
-fn digit(n: u8) -> u8 {
-    let d = n % 16;
-    if d < 10 { 48 + d } else { 87 + d }
-}
-
-// A byte as two lowercase hexadecimal digits.
-pub fn hex(rt: &impl Print, b: u8) -> io::Result<()> {
-    word(rt, &[digit(b / 16), digit(b % 16)])
-}
-
-pub fn hex_column(rt: &impl Print, c: [u8; 3]) -> io::Result<()> {
-    hex_bytes(rt, &c)
-}
-
-pub fn hex_state(rt: &impl Print, a: [[u8; 3]; 4]) -> io::Result<()> {
-    for column in a {
-        hex_column(rt, column)?;
-    }
-    Ok(())
-}
-
-pub fn word(rt: &impl Print, text: &[u8]) -> io::Result<()> {
-    rt.write_all(text)
-}
-
-pub fn space(rt: &impl Print) -> io::Result<()> {
-    word(rt, b" ")
-}
-
-pub fn newline(rt: &impl Print) -> io::Result<()> {
-    word(rt, b"\n")
-}
-
-// Fills a slice from the generator; the answer is the generator's number after it.
-pub fn draw(x: u64, out: &mut [u8]) -> u64 {
-    let mut now = x;
-    for b in out {
-        now = next(now);
-        *b = byte_of(now);
-    }
-    now
-}
-
-pub fn hex_bytes(rt: &impl Print, bytes: &[u8]) -> io::Result<()> {
-    for b in bytes {
-        hex(rt, *b)?;
+// So many keys from the generator for each key size and each of its round counts, from its start on; a key's line may draw on.
+pub fn each_key<F: Fn(&mut Draws, &[u8], u32) -> io::Result<()>>(
+    keys: usize,
+    line: F,
+) -> io::Result<()>
+    requires { F.IsAlwaysCallable line }
+{
+    let mut draws = Draws::new();
+    for (length, least, most) in [(12, 10, 11), (18, 14, 17), (24, 18, 23)] {
+        for rounds in least..=most {
+            for _ in 0..keys {
+                let mut bytes = [0u8; 24];
+                let key = first_mut(&mut bytes, length);
+                draws.fill(key);
+                line(&mut draws, key, rounds)?;
+            }
+        }
     }
     Ok(())
 }
 
-pub fn decimal(rt: &impl Print, n: u64) -> io::Result<()> {
-    rt.print(n)
+// Bytes as lowercase hexadecimal digits, two for each.
+#[derive(Clone, Copy)]
+pub struct Hex<'a>(pub &'a [u8]);
+
+impl Display for Hex<'_> {
+    fn fmt<W: Write>(&self, f: &mut Formatter<W>) -> fmt::Result {
+        for b in self.0 {
+            write!(f, "{b:02x}")?;
+        }
+        Ok(())
+    }
 }
 
-pub fn number(rt: &impl Print, n: u64) -> io::Result<()> {
-    print!(rt; " {n}")
+// What a call answered: 0 and the numbers of what it gave, or the number of its reason for refusing and as many zeros.
+pub fn answer<R: Into<u32>, const N: usize>(
+    rt: &impl Print,
+    answered: Result<[u32; N], R>,
+) -> io::Result<()> {
+    let (reason, given) = match answered {
+        Ok(given) => (0, given),
+        Err(reason) => (reason.into(), [0; N]),
+    };
+    print!(rt; " {reason}")?;
+    for n in given {
+        print!(rt; " {n}")?;
+    }
+    Ok(())
 }
 
 // The next byte of the input, or 0 where it has ended.
@@ -101,18 +96,29 @@ pub fn read(rt: &impl Input) -> io::Result<u64> {
     let mut n: u64 = 0;
     for _ in 0..21 {
         let b = next_byte(&mut input)?;
-        if b < 48 || 57 < b {
+        if !b.is_ascii_digit() {
             return Ok(n);
         }
-        n = n % 1844674407370955161 * 10 + (b - 48) as u64;
+        n = n % 1844674407370955161 * 10 + (b - b'0') as u64;
     }
     Ok(n)
+}
+
+// The rows of the input: how many there are, and then for each the number of a call, which its line goes on to read.
+pub fn each_row<F: Fn(u64) -> io::Result<()>>(rt: &impl Input, line: F) -> io::Result<()>
+    requires { F.IsAlwaysCallable line }
+{
+    let rows = read(rt)?;
+    for _ in 0..rows {
+        line(read(rt)?)?;
+    }
+    Ok(())
 }
 
 // The next number of the input, printed: as a length, and as a number of 32 bits.
 pub fn echo(rt: &(impl Print + Input)) -> io::Result<usize> {
     let n = read(rt)?;
-    number(rt, n)?;
+    print!(rt; " {n}")?;
     Ok(n as usize)
 }
 
@@ -122,24 +128,28 @@ pub fn echo_u32(rt: &(impl Print + Input)) -> io::Result<u32> {
 }
 
 // Every byte of a slice from an index on is still the mark that was put there.
+// Kept: `byte_slices::zeros_from` says so of zeros alone, for proved callers, and this crate rests on no other.
 pub fn all_marks(bytes: &[u8], from: usize, mark: u8) -> bool {
     bytes.iter().skip(from).all(|b| *b == mark)
 }
 
 // The end of a line: whether every byte from an index on was left alone.
 pub fn kept(rt: &impl Print, bytes: &[u8], from: usize, mark: u8) -> io::Result<()> {
-    if all_marks(bytes, from, mark) {
-        word(rt, b" kept\n")
+    let left = if all_marks(bytes, from, mark) {
+        "kept"
     } else {
-        word(rt, b" changed\n")
-    }
+        "changed"
+    };
+    println!(rt; " {left}")
 }
 
 // The first n bytes of a slice, or all of it where it has fewer.
 pub fn first(s: &[u8], n: usize) -> &[u8] {
-    if n <= s.len() { &s[0..n] } else { s }
+    &s[..n.min(s.len())]
 }
 
+// Kept: beside `first`, as std has get_mut beside get; no one function lends both to be read and to be written.
 pub fn first_mut(s: &mut [u8], n: usize) -> &mut [u8] {
-    if n <= s.len() { &mut s[0..n] } else { s }
+    let n = n.min(s.len());
+    &mut s[..n]
 }

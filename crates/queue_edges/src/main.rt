@@ -4,12 +4,11 @@
 
 #![tactic(auto)]
 
+use printing::{Hex, echo, echo_u32, first, first_mut};
 use roll::Roll;
 use std::io;
 
 const MARK: u8 = 165;
-
-const GRANTS: usize = 65;
 
 // Plain bytes: contractor, count, size block and right, and the mark of a grant.
 fn plain(contractor: u8, count: u8, block: u32, right: u8) -> [u8; 12] {
@@ -20,49 +19,36 @@ fn plain(contractor: u8, count: u8, block: u32, right: u8) -> [u8; 12] {
 }
 
 // Seventeen kinds of grants. Asked for size block 300, two open for overwriting and eight for reading.
-fn kind(n: usize) -> [u8; 12] {
-    match n {
-        0 => plain(1, 1, 300, 2),
-        1 => plain(1, 1, 300, 1),
-        2 => plain(1, 1, 301, 2),
-        3 => plain(1, 1, 300, 3),
-        4 => plain(2, 2, 300, 2),
-        5 => plain(3, 1, 300, 2),
-        6 => plain(3, 3, 300, 2),
-        7..15 => kind_of_reader(n),
-        _ => kind_of_block(n),
-    }
-}
-
-// Those of contractors in standing who may only read.
-fn kind_of_reader(n: usize) -> [u8; 12] {
-    match n {
-        7 => plain(5, 5, 300, 2),
-        8 => plain(7, 7, 300, 1),
-        9 => plain(7, 7, 300, 2),
-        10 => plain(7, 7, 301, 2),
-        11 => plain(9, 9, 300, 2),
-        12 => plain(7, 7, 300, 3),
-        13 => plain(11, 11, 300, 2),
-        _ => plain(5, 3, 300, 2),
-    }
-}
-
-// Those for other size blocks: for 0, as one that was issued before that was refused, and for one of which the lower three bytes are 0.
-fn kind_of_block(n: usize) -> [u8; 12] {
-    match n {
-        15 => plain(1, 1, 0, 2),
-        _ => plain(1, 1, 16777216, 2),
-    }
+fn kinds() -> [[u8; 12]; 17] {
+    [
+        plain(1, 1, 300, 2),
+        plain(1, 1, 300, 1),
+        plain(1, 1, 301, 2),
+        plain(1, 1, 300, 3),
+        plain(2, 2, 300, 2),
+        plain(3, 1, 300, 2),
+        plain(3, 3, 300, 2),
+        // Those of contractors in standing who may only read.
+        plain(5, 5, 300, 2),
+        plain(7, 7, 300, 1),
+        plain(7, 7, 300, 2),
+        plain(7, 7, 301, 2),
+        plain(9, 9, 300, 2),
+        plain(7, 7, 300, 3),
+        plain(11, 11, 300, 2),
+        plain(5, 3, 300, 2),
+        // Those for other size blocks: for 0, as one that was issued before that was refused, and for one of which the lower three bytes are 0.
+        plain(1, 1, 0, 2),
+        plain(1, 1, 16777216, 2),
+    ]
 }
 
 // One grant more than a queue may have, of each kind in turn, enciphered under twelve bytes of the key with ten rounds.
 fn grants() -> [u8; 780] {
-    let key = [7u8; 12];
+    let kinds = kinds();
     let mut out = [0u8; 780];
-    for i in 0..GRANTS {
-        let at = 12 * i;
-        let _ = cipher::encipher(&key, 10, &kind(i % 17), &mut out[at..at + 12]);
+    for (i, grant) in out.chunks_exact_mut(12).enumerate() {
+        let _ = cipher::encipher(&[7u8; 12], 10, &kinds[i % 17], grant);
     }
     out
 }
@@ -92,42 +78,34 @@ fn rights() -> [u8; 200] {
 }
 
 fn line(rt: &(impl Print + Input), grants: &[u8; 780]) -> io::Result<()> {
-    let key = [7u8; 32];
+    print!(rt; "queue")?;
+    let k = echo(rt)?;
+    let rounds = echo_u32(rt)?;
+    let l = echo(rt)?;
+    let o = echo(rt)?;
+    let asked = echo_u32(rt)?;
+    let right = echo_u32(rt)?;
+    let roll = Roll {
+        counts: counts(),
+        rights: rights(),
+    };
     let mut out = [MARK; 80];
-    printing::word(rt, b"queue")?;
-    let k = printing::echo(rt)?;
-    let r = printing::echo_u32(rt)?;
-    let l = printing::echo(rt)?;
-    let o = printing::echo(rt)?;
-    let asked = printing::echo_u32(rt)?;
-    let right = printing::echo_u32(rt)?;
-    let lent = printing::first(grants, l);
     let answer = queue::check(
-        printing::first(&key, k),
-        r,
-        Roll {
-            counts: counts(),
-            rights: rights(),
-        },
-        lent,
+        first(&[7u8; 32], k),
+        rounds,
+        roll,
+        first(grants, l),
         asked,
         right,
-        printing::first_mut(&mut out, o),
+        first_mut(&mut out, o),
     );
-    let number = refusal::outcome_number(answer);
-    let written = if number == 0 { l / 12 } else { 0 };
-    printing::number(rt, number as u64)?;
-    printing::space(rt)?;
-    printing::hex_bytes(rt, printing::first(&out, written))?;
+    let written = if answer.is_ok() { l / 12 } else { 0 };
+    printing::answer(rt, answer.map(|_| []))?;
+    print!(rt; " {}", Hex(first(&out, written)))?;
     printing::kept(rt, &out, written, MARK)
 }
 
 fn main(rt: HostRuntime) -> io::Result<()> {
     let grants = grants();
-    let rows = printing::read(&rt)?;
-    for _ in 0..rows {
-        printing::read(&rt)?;
-        line(&rt, &grants)?;
-    }
-    Ok(())
+    printing::each_row(&rt, |_| line(&rt, &grants))
 }

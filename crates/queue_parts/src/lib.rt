@@ -32,6 +32,7 @@ pub fn try_queue(grants: usize, room: usize, size_block: u32, right: u32) -> Res
 }
 
 // What answers for a grant: 0 if it opens, else its refusal's number.
+// Kept: the C interface: a byte of `gordzila_check_queue` answers for a grant.
 pub fn verdict_byte(verdict: Verdict) -> u8
     ensures { result ≡ verdict_number verdict }
 {

@@ -1,4 +1,5 @@
 // The empty roll, and entering, withdrawing and changing the highest right on a roll's bytes: what the C calls of these names do.
+// Kept: not `roll_changes::enter_on` and its like: over a struct of lent bytes the proof of what was written did not close.
 
 #![tactic(auto)]
 

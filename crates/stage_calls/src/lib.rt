@@ -36,6 +36,7 @@ pub fn stage(key: &[u8], n: u32, out: &mut [u8]) -> Result<(), Reason>
 }
 
 // The subkey of a key's stage n: 12 bytes.
+// Kept: two calls, for two names in C; what they share is `stage_for`, and what is left is no plainer as one.
 #[tactic(auto, using(crate::proofs::Straight::subkey_padded), unfolding(refusal::specs::Tries::written, crate::specs::StageCalls::subkey_call_output))]
 pub fn subkey(key: &[u8], n: u32, out: &mut [u8]) -> Result<(), Reason>
     ensures value { outcome_number result ≡ stage_call_number 12 key.now n out.old }
