@@ -33,4 +33,5 @@ module _ (key₁ key₂ : List ℕ) (rounds : ℕ) (page scratch out : List ℕ)
   pub used_fits : opened_used key₁ key₂ rounds page scratch out ≤ 492
   unfolding opened_used
   used_fits =
-      answer_either (λ (u : ℕ). u ≤ 492) (open_number key₁ key₂ rounds page scratch out) (used_in page) 0 (λ e. (openable key₁ key₂ rounds page scratch out (early e)).openable.used) (omega arith)
+      answer_either (λ (u : ℕ). u ≤ 492) (open_number key₁ key₂ rounds page scratch out) (used_in page) 0
+      (λ e. (openable key₁ key₂ rounds page scratch out (early e)).openable.used) (omega arith)
