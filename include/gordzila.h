@@ -289,7 +289,7 @@ uint32_t gordzila_issue(const uint8_t *key, size_t key_length, uint32_t rounds, 
  * beyond keep their content. After every other refusal all bytes keep their content. Nothing is said of what the calls leave on the
  * stack. Calls that are made at the same time need a scratch each.
  *
- * Stack: of the outcomes tried, the most that a call took is 432 bytes (sealing) and 512 (opening), with the return address and without
+ * Stack: of the outcomes tried, the most that a call took is 400 bytes (sealing) and 512 (opening), with the return address and without
  * the arguments (painted by `make stack`, x86-64, this version's archive).
  *
  * Beware:

@@ -1,33 +1,31 @@
 -- What the number that the C call of the check answers is made of.
 use mathlib.Core.Path.{◌≡◌, refl, sym, ap, ap₂, ◌∙◌, subst⁻¹}
 use mathlib.Core.Bool.{Bool, true, false, cond}
-use mathlib.Core.List.{List}
+use mathlib.Core.List.{List, ◌∷◌}
 use Prim.Native.Nat.{ℕ, ◌+◌, ◌*◌, ◌≤◌}
 use native.Mathlib.Omega.{arith}
 use lib.Dec.{eqb}
 use borrow.Author.Tests.{ne_eqb}
 use Rattle.std.specs.Prelude.{Ok, Err}
 use Rattle.refusal.specs.Reasons.{reason_number}
-use Rattle.refusal.specs.Tries.{first, answered}
+use Rattle.refusal.specs.Tries.{Try, ◌unless◌, first, answered}
 use Rattle.refusal.proofs.Reasons.{reason_positive}
-use Rattle.refusal.proofs.Ladder.{all_pass}
+use Rattle.refusal.proofs.Ladder.{numbered, all_pass}
 use Rattle.refusal.proofs.Answers.{answer_either}
-use Rattle.roll.specs.declared.Roll.{Roll}
 use Rattle.roll.proofs.Contractors.{a_contractor}
-use Rattle.grant.specs.Grants.{Verdict, contractor_in, verdict_number, verdict_contractor, verdict_right}
+use Rattle.grant.specs.Grants.{Verdict, is_grant, contractor_in, verdict_number, verdict_contractor, verdict_right}
 use Rattle.grant.proofs.Tests.{a_grant}
-use Rattle.checking.specs.Checking.{opened_grant, check_tries_on}
 use Rattle.check_call.specs.CheckCall.{verdict_code}
 
--- a verdict names a contractor of at most 200, or none
-pub contractor-most : (whole : Bool) (key : List ℕ) (rounds : ℕ) (roll : Roll) (grant : List ℕ) (block right : ℕ) (v : Verdict)
-    → verdict_contractor v ≡ answered (first (check_tries_on whole key rounds roll grant block right)) (contractor_in (opened_grant key rounds grant)) 0
-    → verdict_contractor v ≤ 200
-contractor-most whole key rounds roll grant block right v e =
-    let ts = check_tries_on whole key rounds roll grant block right in
-    let p = opened_grant key rounds grant in
-    subst⁻¹ (λ (n : ℕ). n ≤ 200) e (answer_either (λ (n : ℕ). n ≤ 200) (first ts) (contractor_in p) 0
-    (λ z. (a_contractor _ (a_grant p (all_pass ts refl z).1.1.1.1.1.0).contractor).most) (omega arith))
+-- a verdict names a contractor of at most 200, or none, whatever of the input passes and whatever is tried after 8 of the plain bytes p
+pub contractor-most : (a b c d e : Bool) (p : List ℕ) (rest : List Try) (v : Verdict)
+    → verdict_contractor v
+    ≡ answered (first ((1 unless a) ∷ (2 unless b) ∷ (3 unless c) ∷ (7 unless d) ∷ (14 unless e) ∷ (8 unless is_grant p) ∷ rest)) (contractor_in p) 0
+    → numbered rest ≡ true → verdict_contractor v ≤ 200
+contractor-most a b c d e p rest v same some =
+    let ts : List Try = (1 unless a) ∷ (2 unless b) ∷ (3 unless c) ∷ (7 unless d) ∷ (14 unless e) ∷ (8 unless is_grant p) ∷ rest in
+    subst⁻¹ (λ (n : ℕ). n ≤ 200) same (answer_either (λ (n : ℕ). n ≤ 200) (first ts) (contractor_in p) 0
+    (λ z. (a_contractor _ (a_grant p (all_pass ts some z).1.1.1.1.1.0).contractor).most) (omega arith))
 
 -- a verdict's number, by its parts
 pub code_of : (v : Verdict) → verdict_code v ≡ answered (verdict_number v) (1000 * verdict_right v + verdict_contractor v) (verdict_number v)
@@ -48,3 +46,9 @@ pub told : (n r c number right contractor : ℕ) → number ≡ n → contractor
     → answered number (1000 * right + contractor) number ≡ answered n (1000 * r + c) n
 told n r c number right contractor en ec er =
     ap (λ (m : ℕ). answered m (1000 * right + contractor) m) en ∙ ap₂ (λ (a b : ℕ). answered n (1000 * a + b) n) er ec ∙ parts n r c
+
+-- what the call answers for a verdict v, by what v is said to hold
+pub answers : (v : Verdict) (n r c code : ℕ) → code ≡ verdict_code v → verdict_number v ≡ n
+    → verdict_contractor v ≡ answered n c 0 → verdict_right v ≡ answered n r 0 → code ≡ answered n (1000 * r + c) n
+answers v n r c code e en ec er =
+    e ∙ code_of v ∙ told n r c (verdict_number v) (verdict_right v) (verdict_contractor v) en ec er

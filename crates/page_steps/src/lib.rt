@@ -3,7 +3,7 @@
 
 #![tactic(auto)]
 
-ghost use Rattle.std.specs.Prelude.{◌≡◌, ◌++◌, ◌≤◌, length, take, drop};
+ghost use Rattle.std.specs.Prelude.{◌≡◌, ◌++◌, ◌+◌, ◌≤◌, length, take, drop};
 ghost use Rattle.block_bytes.specs.Blocks.{state_of};
 ghost use Rattle.chaining.specs.Chaining.{chained_bytes};
 ghost use Rattle.pages.specs.Pages.{header, filled, check_over};
@@ -11,6 +11,18 @@ ghost use Rattle.pages.specs.Keyed.{enciphering};
 ghost use Rattle.page_parts.specs.ForProver.{Ready};
 
 use pages::Header;
+
+// The payload after the header.
+// Kept: byte by byte, and not `blocks::put_bytes`. Both slices are lent by the host, and a copy from one to the other would have the archive need
+// `memmove`, where it is said to need `memcpy` and `memset` alone.
+fn put_payload(payload: &[u8], out: &mut [u8])
+    requires { 12 + length payload.now ≤ length out.old }
+    ensures { out.new ≡ take 12 out.old ++ (payload.now ++ drop (12 + length payload.now) out.old) }
+{
+    for i in 0..payload.len() {
+        out[12 + i] = payload[i];
+    }
+}
 
 // The header and the payload as they are sealed, before anything is enciphered.
 pub fn lay_out(size_block: u32, page_number: u16, payload: &[u8], out: &mut [u8])
@@ -25,7 +37,7 @@ pub fn lay_out(size_block: u32, page_number: u16, payload: &[u8], out: &mut [u8]
         used: used as u16,
     });
     blocks::put_bytes(out, 0, &head);
-    blocks::put_bytes(out, 12, payload);
+    put_payload(payload, out);
     byte_slices::clear(&mut out[12 + used..504]);
 }
 

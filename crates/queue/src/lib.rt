@@ -13,7 +13,7 @@ ghost use Rattle.queue_parts.specs.ForProver.{Answerable, number_over};
 ghost use Rattle.queue.specs.Queue.{queue_answers, queue_tries_on, queue_number, queue_output};
 
 use key_lists::Direction;
-use refusal::{Reason, require};
+use refusal::Reason;
 use roll::{AsRoll, Roll};
 
 // The byte for one grant.
@@ -65,9 +65,16 @@ pub fn check_on<R: AsRoll>(
         ≡ written (first (queue_tries_on (R.whole roll.now) key.now rounds grants.now size_block right answers.old))
         (queue_answers key.now rounds (R.roll roll.now) grants.now size_block right) answers.old }
 {
-    settings::try_settings(key.len(), rounds)?;
-    require(roll.is_whole(), Reason::InputLength)?;
-    queue_parts::try_queue(grants.len(), answers.len(), size_block, right)?;
+    let lengths = roll.is_whole() & queue_parts::is_queue_length(grants.len());
+    queue_parts::try_queue(
+        key.len(),
+        rounds,
+        lengths,
+        grants.len(),
+        answers.len(),
+        size_block,
+        right,
+    )?;
     let mut list = [0u8; 288];
     filling::fill_for(Direction::Deciphering, key, rounds as usize, &mut list);
     let used = 12 * (rounds as usize + 1);

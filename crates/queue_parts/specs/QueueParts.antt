@@ -18,11 +18,8 @@ grants_in n = n / 12
 abbrev pub grant_at : List ℕ → ℕ → List ℕ
 grant_at grants i = take 12 (drop (12 * i) grants)
 
--- what is tried of a queue once the settings are: 3, 4, 7, 14. The grants have so many bytes, and the answers room for so many
-abbrev pub queue_own_tries : Bool → ℕ → ℕ → ℕ → ℕ → List Try
-queue_own_tries lengths grants room size_block right =
-    (3 unless lengths) ∷ (4 unless leb (grants_in grants) room) ∷ (7 unless is_right right) ∷ (14 unless is_size_block size_block) ∷ []
-
--- the order of refusals of the whole call: 1, 2, and then these. The key has n bytes
+-- the order of refusals of the whole call: 1, 2, 3, 4, 7, 14. The key has n bytes, the grants so many, and the answers room for so many bytes
 abbrev pub queue_input_tries : ℕ → ℕ → Bool → ℕ → ℕ → ℕ → ℕ → List Try
-queue_input_tries n rounds lengths grants room size_block right = settings_tries n rounds ++ queue_own_tries lengths grants room size_block right
+queue_input_tries n rounds lengths grants room size_block right =
+    settings_tries n rounds
+    ++ ((3 unless lengths) ∷ (4 unless leb (grants_in grants) room) ∷ (7 unless is_right right) ∷ (14 unless is_size_block size_block) ∷ [])

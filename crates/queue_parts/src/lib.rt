@@ -6,7 +6,7 @@ ghost use Rattle.std.specs.Prelude.{◌≡◌};
 ghost use Rattle.refusal.specs.Reasons.{outcome_number};
 ghost use Rattle.refusal.specs.Tries.{first};
 ghost use Rattle.grant.specs.Grants.{verdict_number};
-ghost use Rattle.queue_parts.specs.QueueParts.{queue_length, queue_own_tries};
+ghost use Rattle.queue_parts.specs.QueueParts.{queue_length, queue_input_tries};
 
 use grant::Verdict;
 use refusal::{Reason, require};
@@ -20,12 +20,22 @@ pub fn is_queue_length(n: usize) -> bool
     n % 12 == 0 && n <= 768
 }
 
-// What is tried of a queue once the settings are: its length, the room for the answers, and the right and the size block that are asked for.
-#[tactic(auto, unfolding(refusal::specs::Tries::first))]
-pub fn try_queue(grants: usize, room: usize, size_block: u32, right: u32) -> Result<(), Reason>
-    ensures { outcome_number result ≡ first (queue_own_tries (queue_length grants) grants room size_block right) }
+// What is tried of a queue: the settings, the lengths, the room for the answers, and the right and the size block that are asked for. The key has
+// n bytes.
+#[tactic(auto, unfolding(refusal::specs::Tries::first, size_blocks::specs::SizeBlocks::is_size_block))]
+pub fn try_queue(
+    n: usize,
+    rounds: u32,
+    lengths: bool,
+    grants: usize,
+    room: usize,
+    size_block: u32,
+    right: u32,
+) -> Result<(), Reason>
+    ensures { outcome_number result ≡ first (queue_input_tries n rounds lengths grants room size_block right) }
 {
-    require(is_queue_length(grants), Reason::InputLength)?;
+    settings::try_settings(n, rounds)?;
+    require(lengths, Reason::InputLength)?;
     require(grants / 12 <= room, Reason::OutputTooShort)?;
     require(is_right(right), Reason::UnknownRight)?;
     require(is_size_block(size_block), Reason::BlockZero)

@@ -34,13 +34,16 @@ pub fn try_withdraw(contractor: u32, count: u16) -> Result<(), Reason>
     require(is_in_standing(count), Reason::NotInStanding)
 }
 
+// Kept: a local for each test, since the edits `any_figure_is_given` and `change_out_of_standing` are of these lines, which stand once so.
 #[tactic(auto, unfolding(refusal::specs::Tries::first))]
 pub fn try_change(contractor: u32, right: u32, count: u16) -> Result<(), Reason>
     ensures { outcome_number result ≡ first (change_tries contractor right count) }
 {
     require(is_contractor(contractor), Reason::Contractor)?;
-    require(is_right(right), Reason::UnknownRight)?;
-    require(is_in_standing(count), Reason::NotInStanding)
+    let known = is_right(right);
+    require(known, Reason::UnknownRight)?;
+    let stands = is_in_standing(count);
+    require(stands, Reason::NotInStanding)
 }
 
 // What becomes of the entry of a contractor who is entered with a highest right.
