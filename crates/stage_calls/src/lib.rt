@@ -32,7 +32,8 @@ pub fn stage(key: &[u8], n: u32, out: &mut [u8]) -> Result<(), Reason>
 
 // The subkey of a key's stage n: 12 bytes.
 // Kept: two calls, for two names in C; what they share is `try_stage`, and what is left is no plainer as one.
-#[tactic(auto, using(crate::proofs::Straight::subkey_padded), unfolding(refusal::specs::Tries::first, refusal::specs::Tries::written, crate::specs::StageCalls::subkey_call_output))]
+#[tactic(auto, using(crate::proofs::Straight::subkey_padded), // zeros past the key are no part of a subkey
+unfolding(refusal::specs::Tries::first, refusal::specs::Tries::written, crate::specs::StageCalls::subkey_call_output))]
 pub fn subkey(key: &[u8], n: u32, out: &mut [u8]) -> Result<(), Reason>
     ensures value { outcome_number result ≡ stage_call_number 12 key.now n out.old }
     ensures out_after { out.new ≡ subkey_call_output key.now n out.old }

@@ -20,7 +20,8 @@ returns-clause-answers_after g c =
     let a = c.args in
     let long = g.R.AsRoll.whole a.roll.now && queue_length (length a.grants.now) in
     let tries = queue_input_tries (length a.key.now) a.rounds long (length a.grants.now) (length a.answers.now) a.size_block a.right in
-    let p = queue_passed (length a.key.now) a.rounds long (length a.grants.now) (length a.answers.now) a.size_block a.right (all_pass tries refl (search rules)) in
+    let p =
+    queue_passed (length a.key.now) a.rounds long (length a.grants.now) (length a.answers.now) a.size_block a.right (all_pass tries refl (search rules)) in
     let s : Settings a.key.now a.rounds = record { bytes = λ i. (c.type_inv.key i).fits; length_allowed = p.key-length; rounds_are_allowed = p.round-count } in
     let bytes : List ℕ = queue_answers a.key.now a.rounds (g.R.AsRoll.roll a.roll.now) a.grants.now a.size_block a.right in
     let e : c.answer_all.new.answers ≡ bytes ++ drop (length bytes) a.answers.now =
