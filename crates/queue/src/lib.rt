@@ -48,6 +48,28 @@ fn answer_all<R: AsRoll>(
     }
 }
 
+// The bytes for a queue of which `queue_parts::try_queue` refuses nothing: one list is prepared, and every grant is answered over it. Public, so that
+// must-fail edits of the C call can have it tried for one thing and answered for another.
+#[tactic(auto, unfolding(refusal::specs::Tries::first))]
+pub fn answer_queue<R: AsRoll>(
+    key: &[u8],
+    rounds: u32,
+    roll: &R,
+    grants: &[u8],
+    size_block: u32,
+    right: u32,
+    answers: &mut [u8],
+)
+    requires { queue_number key.now rounds grants.now size_block right answers.old ≡ 0 }
+    ensures { answers.new
+        ≡ written 0 (queue_answers key.now rounds (R.roll roll.now) grants.now size_block right) answers.old }
+{
+    let mut list = [0u8; 288];
+    filling::fill_for(Direction::Deciphering, key, rounds as usize, &mut list);
+    let used = 12 * (rounds as usize + 1);
+    answer_all(&list[..used], roll, grants, size_block, right, answers);
+}
+
 // Checks a queue of grants for one size block and one right: a byte for each grant, 0 if it opens, else its refusal's number.
 #[tactic(auto, unfolding(refusal::specs::Tries::first, refusal::specs::Tries::written))]
 pub fn check_on<R: AsRoll>(
@@ -75,10 +97,7 @@ pub fn check_on<R: AsRoll>(
         size_block,
         right,
     )?;
-    let mut list = [0u8; 288];
-    filling::fill_for(Direction::Deciphering, key, rounds as usize, &mut list);
-    let used = 12 * (rounds as usize + 1);
-    answer_all(&list[..used], roll, grants, size_block, right, answers);
+    answer_queue(key, rounds, roll, grants, size_block, right, answers);
     Ok(())
 }
 
