@@ -61,8 +61,7 @@ pub fn answer_queue<R: AsRoll>(
     answers: &mut [u8],
 )
     requires { queue_number key.now rounds grants.now size_block right answers.old ≡ 0 }
-    ensures { answers.new
-        ≡ written 0 (queue_answers key.now rounds (R.roll roll.now) grants.now size_block right) answers.old }
+    ensures { answers.new ≡ queue_output key.now rounds (R.roll roll.now) grants.now size_block right answers.old }
 {
     let mut list = [0u8; 288];
     filling::fill_for(Direction::Deciphering, key, rounds as usize, &mut list);
@@ -71,7 +70,7 @@ pub fn answer_queue<R: AsRoll>(
 }
 
 // Checks a queue of grants for one size block and one right: a byte for each grant, 0 if it opens, else its refusal's number.
-#[tactic(auto, unfolding(refusal::specs::Tries::first, refusal::specs::Tries::written))]
+#[tactic(auto, unfolding(refusal::specs::Tries::first, refusal::specs::Tries::written, crate::specs::Queue::queue_output))]
 pub fn check_on<R: AsRoll>(
     key: &[u8],
     rounds: u32,
